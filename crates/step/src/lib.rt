@@ -250,18 +250,28 @@ fn count_next(tables: Tables, next: Option<usize>) -> usize
     }
 }
 
-// The process at place i becomes what it enters. State and `fresh` are handed on one by one, here and below: what is written through a struct of `&mut` isn't known at its end.
-fn replace_process(tables: Tables, state: &mut [i64], fresh: &mut [i64; Room::FRESH], x: Successor)
-    requires { (m : Resolved.Model) × (s : State) × (ps : List Resolved.Part) × Enter.Replaces tables.nodes.now tables.scopes.now tables.root tables.variables state.old x.place x.locals.now x.next m s ps }
-    ensures { (m : Resolved.Model) (s : State) (ps : List Resolved.Part) → Enter.Replaces tables.entry.nodes.now tables.entry.scopes.now tables.entry.root tables.entry.variables state.old x.entry.place x.entry.locals.now x.entry.next m s ps → state.new ≡ state_numbers (Enter.entering m s x.entry.place x.entry.locals.now ps) }
+// What a step works with: the tables, the state that moves, and room for the numbers of new processes. Each function that takes it promises that `state` stays the same slice: by that, the lender
+// knows what it holds. It is read by a variable of its own: of a field that is lent as it is, the length alone would be known afterwards.
+#[derive(Drop)]
+struct Moving<'a> {
+    tables: Tables<'a>,
+    state: &'a mut [i64],
+    fresh: &'a mut [i64; Room::FRESH],
+}
+
+// The process at place i becomes what it enters.
+fn replace_process(moving: &mut Moving, x: Successor)
+    requires { (m : Resolved.Model) × (s : State) × (ps : List Resolved.Part) × Enter.Replaces moving.old.tables.nodes.now moving.old.tables.scopes.now moving.old.tables.root moving.old.tables.variables moving.old.state.now x.place x.locals.now x.next m s ps }
+    ensures same { (moving.new.state.ghost_name ≡ moving.old.state.ghost_name) × (moving.new.tables ≡ moving.old.tables) }
+    ensures moves { (m : Resolved.Model) (s : State) (ps : List Resolved.Part) → Enter.Replaces moving.old.tables.nodes.now moving.old.tables.scopes.now moving.old.tables.root moving.old.tables.variables moving.old.state.now x.entry.place x.entry.locals.now x.entry.next m s ps → moving.new.state.now ≡ state_numbers (Enter.entering m s x.entry.place x.entry.locals.now ps) }
 {
     match x.next {
         Some(k) => {
-            let n = eval::next::put_processes(tables, x.locals, k, fresh, 0);
-            state::splice(state, x.place, &fresh[..], n);
+            let n = eval::next::put_processes(moving.tables, x.locals, k, moving.fresh, 0);
+            state::splice(moving.state, x.place, &moving.fresh[..], n);
         }
         None => {
-            state::splice(state, x.place, &fresh[..], 0);
+            state::splice(moving.state, x.place, &moving.fresh[..], 0);
         }
     }
 }
@@ -313,120 +323,107 @@ fn change_pairs(state: &mut [i64], offer: Option<Offer>)
 }
 
 // 17 to 19 of a process that acts by itself, then its move.
-fn move_alone(
-    tables: Tables,
-    state: &mut [i64],
-    fresh: &mut [i64; Room::FRESH],
-    x: Successor,
-    offer: Option<Offer>,
-) -> Result<(), Refusal>
-    requires { (m : Resolved.Model) × (s : State) × (ps : List Resolved.Part) × (n : Change) × Enter.Alone tables.nodes.now tables.scopes.now tables.root tables.variables state.old x.place x.locals.now x.next offer m s ps n }
-    ensures { (m : Resolved.Model) (s : State) (ps : List Resolved.Part) (n : Change) → Enter.Alone tables.entry.nodes.now tables.entry.scopes.now tables.entry.root tables.entry.variables state.old x.entry.place x.entry.locals.now x.entry.next offer m s ps n → Enter.Answers (arguments_given x.entry.locals.now ps) s (Enter.changed (Enter.entering m s x.entry.place x.entry.locals.now ps) n) result state.new }
+fn move_alone(moving: &mut Moving, x: Successor, offer: Option<Offer>) -> Result<(), Refusal>
+    requires { (m : Resolved.Model) × (s : State) × (ps : List Resolved.Part) × (n : Change) × Enter.Alone moving.old.tables.nodes.now moving.old.tables.scopes.now moving.old.tables.root moving.old.tables.variables moving.old.state.now x.place x.locals.now x.next offer m s ps n }
+    ensures same { moving.new.state.ghost_name ≡ moving.old.state.ghost_name }
+    ensures answers { (m : Resolved.Model) (s : State) (ps : List Resolved.Part) (n : Change) → Enter.Alone moving.old.tables.nodes.now moving.old.tables.scopes.now moving.old.tables.root moving.old.tables.variables moving.old.state.now x.entry.place x.entry.locals.now x.entry.next offer m s ps n → Enter.Answers (arguments_given x.entry.locals.now ps) s (Enter.changed (Enter.entering m s x.entry.place x.entry.locals.now ps) n) result moving.new.state.now }
 {
-    if !arguments_given(tables.nodes, x.locals, x.next) {
+    if !arguments_given(moving.tables.nodes, x.locals, x.next) {
         return Err(Refusal::Arguments);
     }
+    let state = &mut *moving.state;
     let n = state::process_count(&state[..]);
-    let count = count_next(tables, x.next);
+    let count = count_next(moving.tables, x.next);
     if Room::PROCESSES + 1 < n + count {
         return Err(Refusal::Processes);
     }
     if is_overfull(&state[..], offer) {
         return Err(Refusal::Pairs);
     }
-    replace_process(tables, state, fresh, x);
-    change_pairs(state, offer);
+    replace_process(moving, x);
+    change_pairs(moving.state, offer);
     Ok(())
 }
 
 // Two processes become what they enter, the one at x before the one at y. Where the first becomes nothing it goes first, so that no place is wanted for a moment.
-fn replace_both(
-    tables: Tables,
-    state: &mut [i64],
-    fresh: &mut [i64; Room::FRESH],
-    x: Successor,
-    y: Successor,
-)
-    requires { (m : Resolved.Model) × (s : State) × (ps : List Resolved.Part) × (qs : List Resolved.Part) × Enter.Both tables.nodes.now tables.scopes.now tables.root tables.variables state.old x.place x.locals.now x.next y.place y.locals.now y.next m s ps qs }
-    ensures { (m : Resolved.Model) (s : State) (ps qs : List Resolved.Part) → Enter.Both tables.entry.nodes.now tables.entry.scopes.now tables.entry.root tables.entry.variables state.old x.entry.place x.entry.locals.now x.entry.next y.entry.place y.entry.locals.now y.entry.next m s ps qs → state.new ≡ state_numbers (Enter.both_entering m s x.entry.place x.entry.locals.now ps y.entry.place y.entry.locals.now qs) }
+fn replace_both(moving: &mut Moving, x: Successor, y: Successor)
+    requires { (m : Resolved.Model) × (s : State) × (ps : List Resolved.Part) × (qs : List Resolved.Part) × Enter.Both moving.old.tables.nodes.now moving.old.tables.scopes.now moving.old.tables.root moving.old.tables.variables moving.old.state.now x.place x.locals.now x.next y.place y.locals.now y.next m s ps qs }
+    ensures same { moving.new.state.ghost_name ≡ moving.old.state.ghost_name }
+    ensures moves { (m : Resolved.Model) (s : State) (ps qs : List Resolved.Part) → Enter.Both moving.old.tables.nodes.now moving.old.tables.scopes.now moving.old.tables.root moving.old.tables.variables moving.old.state.now x.entry.place x.entry.locals.now x.entry.next y.entry.place y.entry.locals.now y.entry.next m s ps qs → moving.new.state.now ≡ state_numbers (Enter.both_entering m s x.entry.place x.entry.locals.now ps y.entry.place y.entry.locals.now qs) }
 {
-    if count_next(tables, x.next) == 0 {
-        replace_process(tables, state, fresh, x);
+    if count_next(moving.tables, x.next) == 0 {
+        replace_process(moving, x);
         let earlier = Successor {
             place: y.place - 1,
             ..y
         };
-        replace_process(tables, state, fresh, earlier);
+        replace_process(moving, earlier);
         return;
     }
-    replace_process(tables, state, fresh, y);
-    replace_process(tables, state, fresh, x);
+    replace_process(moving, y);
+    replace_process(moving, x);
 }
 
 // 17 and 18 of a handshake, then its move.
-fn move_both(
-    tables: Tables,
-    state: &mut [i64],
-    fresh: &mut [i64; Room::FRESH],
-    x: Successor,
-    y: Successor,
-) -> Result<(), Refusal>
-    requires { (m : Resolved.Model) × (s : State) × (ps : List Resolved.Part) × (qs : List Resolved.Part) × Enter.Meets tables.nodes.now tables.scopes.now tables.root tables.variables state.old x.place x.locals.now x.next y.place y.locals.now y.next m s ps qs }
-    ensures { (m : Resolved.Model) (s : State) (ps qs : List Resolved.Part) → Enter.Meets tables.entry.nodes.now tables.entry.scopes.now tables.entry.root tables.entry.variables state.old x.entry.place x.entry.locals.now x.entry.next y.entry.place y.entry.locals.now y.entry.next m s ps qs → Enter.Answers (arguments_given x.entry.locals.now ps && arguments_given y.entry.locals.now qs) s (Enter.both_entering m s x.entry.place x.entry.locals.now ps y.entry.place y.entry.locals.now qs) result state.new }
+fn move_both(moving: &mut Moving, x: Successor, y: Successor) -> Result<(), Refusal>
+    requires { (m : Resolved.Model) × (s : State) × (ps : List Resolved.Part) × (qs : List Resolved.Part) × Enter.Meets moving.old.tables.nodes.now moving.old.tables.scopes.now moving.old.tables.root moving.old.tables.variables moving.old.state.now x.place x.locals.now x.next y.place y.locals.now y.next m s ps qs }
+    ensures same { moving.new.state.ghost_name ≡ moving.old.state.ghost_name }
+    ensures answers { (m : Resolved.Model) (s : State) (ps qs : List Resolved.Part) → Enter.Meets moving.old.tables.nodes.now moving.old.tables.scopes.now moving.old.tables.root moving.old.tables.variables moving.old.state.now x.entry.place x.entry.locals.now x.entry.next y.entry.place y.entry.locals.now y.entry.next m s ps qs → Enter.Answers (arguments_given x.entry.locals.now ps && arguments_given y.entry.locals.now qs) s (Enter.both_entering m s x.entry.place x.entry.locals.now ps y.entry.place y.entry.locals.now qs) result moving.new.state.now }
 {
-    if !arguments_given(tables.nodes, x.locals, x.next) {
+    if !arguments_given(moving.tables.nodes, x.locals, x.next) {
         return Err(Refusal::Arguments);
     }
-    if !arguments_given(tables.nodes, y.locals, y.next) {
+    if !arguments_given(moving.tables.nodes, y.locals, y.next) {
         return Err(Refusal::Arguments);
     }
+    let state = &mut *moving.state;
     let n = state::process_count(&state[..]);
-    let count = count_next(tables, x.next);
-    let also = count_next(tables, y.next);
+    let count = count_next(moving.tables, x.next);
+    let also = count_next(moving.tables, y.next);
     if Room::PROCESSES + 2 < n + count + also {
         return Err(Refusal::Processes);
     }
     if x.place < y.place {
-        replace_both(tables, state, fresh, x, y);
+        replace_both(moving, x, y);
         return Ok(());
     }
-    replace_both(tables, state, fresh, y, x);
+    replace_both(moving, y, x);
     Ok(())
 }
 
 // An entry of one process: names take the values of the pair.
-fn take_alone(
-    tables: Tables,
-    state: &mut [i64],
-    fresh: &mut [i64; Room::FRESH],
-    entry: Entry,
-) -> Result<(), Refusal>
-    requires { (m : Resolved.Model) × (s : State) × (p : Process) × (b : Resolved.Branch) × (g : Guard) × Enter.AloneEntry tables.nodes.now tables.roots.now tables.scopes.now tables.root tables.variables state.old entry.place entry.branch entry.pair m s p b g }
-    ensures { (m : Resolved.Model) (s : State) (p : Process) (b : Resolved.Branch) (g : Guard) → Enter.AloneEntry tables.entry.nodes.now tables.entry.roots.now tables.entry.scopes.now tables.entry.root tables.entry.variables state.old entry.place entry.branch entry.pair m s p b g → Enter.Answers (arguments_given (Enter.locals_of p (values_at s.pairs entry.pair) g) b.next) s (Enter.changed (Enter.entering m s entry.place (Enter.locals_of p (values_at s.pairs entry.pair) g) b.next) (on_action unchanged change_of g)) result state.new }
+fn take_alone(moving: &mut Moving, entry: Entry) -> Result<(), Refusal>
+    requires { (m : Resolved.Model) × (s : State) × (p : Process) × (b : Resolved.Branch) × (g : Guard) × Enter.AloneEntry moving.old.tables.nodes.now moving.old.tables.roots.now moving.old.tables.scopes.now moving.old.tables.root moving.old.tables.variables moving.old.state.now entry.place entry.branch entry.pair m s p b g }
+    ensures same { moving.new.state.ghost_name ≡ moving.old.state.ghost_name }
+    ensures answers { (m : Resolved.Model) (s : State) (p : Process) (b : Resolved.Branch) (g : Guard) → Enter.AloneEntry moving.old.tables.nodes.now moving.old.tables.roots.now moving.old.tables.scopes.now moving.old.tables.root moving.old.tables.variables moving.old.state.now entry.place entry.branch entry.pair m s p b g → Enter.Answers (arguments_given (Enter.locals_of p (values_at s.pairs entry.pair) g) b.next) s (Enter.changed (Enter.entering m s entry.place (Enter.locals_of p (values_at s.pairs entry.pair) g) b.next) (on_action unchanged change_of g)) result moving.new.state.now }
 {
+    let state = &mut *moving.state;
     let values = pair_values(&state[..], entry.pair);
-    let entered = enter(tables, &state[..], entry.place, entry.branch, values);
+    let entered = enter(moving.tables, &state[..], entry.place, entry.branch, values);
     let successor = Successor {
         place: entry.place,
         locals: &entered.locals,
         next: entered.next,
     };
-    move_alone(tables, state, fresh, successor, entered.offer)
+    move_alone(moving, successor, entered.offer)
 }
 
 // An entry of two processes: the receiver's names take the values sent.
-fn take_handshake(
-    tables: Tables,
-    state: &mut [i64],
-    fresh: &mut [i64; Room::FRESH],
-    entry: Entry,
-) -> Result<(), Refusal>
-    requires { (m : Resolved.Model) × (s : State) × (x : Enter.Side) × (y : Enter.Side) × Enter.HandEntry tables.nodes.now tables.roots.now tables.scopes.now tables.root tables.variables state.old entry.place entry.branch entry.partner entry.pbranch m s x y }
-    ensures { (m : Resolved.Model) (s : State) (x y : Enter.Side) → Enter.HandEntry tables.entry.nodes.now tables.entry.roots.now tables.entry.scopes.now tables.entry.root tables.entry.variables state.old entry.place entry.branch entry.partner entry.pbranch m s x y → Enter.Answers (arguments_given (Enter.sent x) x.branch.next && arguments_given (Enter.received x y) y.branch.next) s (Enter.both_entering m s entry.place (Enter.sent x) x.branch.next entry.partner (Enter.received x y) y.branch.next) result state.new }
+fn take_handshake(moving: &mut Moving, entry: Entry) -> Result<(), Refusal>
+    requires { (m : Resolved.Model) × (s : State) × (x : Enter.Side) × (y : Enter.Side) × Enter.HandEntry moving.old.tables.nodes.now moving.old.tables.roots.now moving.old.tables.scopes.now moving.old.tables.root moving.old.tables.variables moving.old.state.now entry.place entry.branch entry.partner entry.pbranch m s x y }
+    ensures same { moving.new.state.ghost_name ≡ moving.old.state.ghost_name }
+    ensures answers { (m : Resolved.Model) (s : State) (x y : Enter.Side) → Enter.HandEntry moving.old.tables.nodes.now moving.old.tables.roots.now moving.old.tables.scopes.now moving.old.tables.root moving.old.tables.variables moving.old.state.now entry.place entry.branch entry.partner entry.pbranch m s x y → Enter.Answers (arguments_given (Enter.sent x) x.branch.next && arguments_given (Enter.received x y) y.branch.next) s (Enter.both_entering m s entry.place (Enter.sent x) x.branch.next entry.partner (Enter.received x y) y.branch.next) result moving.new.state.now }
 {
-    let sender = enter(tables, &state[..], entry.place, entry.branch, None);
+    let state = &mut *moving.state;
+    let sender = enter(moving.tables, &state[..], entry.place, entry.branch, None);
     let values = sent_values(sender.offer);
-    let receiver = enter(tables, &state[..], entry.partner, entry.pbranch, values);
+    let receiver = enter(
+        moving.tables,
+        &state[..],
+        entry.partner,
+        entry.pbranch,
+        values,
+    );
     let x = Successor {
         place: entry.place,
         locals: &sender.locals,
@@ -437,7 +434,7 @@ fn take_handshake(
         locals: &receiver.locals,
         next: receiver.next,
     };
-    move_both(tables, state, fresh, x, y)
+    move_both(moving, x, y)
 }
 
 // Takes a listed entry: the state moves, or 17, 18 or 19 leaves it as it is.
@@ -450,10 +447,15 @@ pub fn take_entry(
     requires { (m : Resolved.Model) × (s : State) × (w : ℕ) × Enter.Lent tables.nodes.now tables.roots.now tables.scopes.now tables.root tables.variables state.old m s × In (listed (key entry.kind entry.place entry.branch entry.partner entry.pbranch entry.pair) w) (entries (branches m) s) }
     ensures { (m : Resolved.Model) (s : State) (w : ℕ) → Enter.Lent tables.entry.nodes.now tables.entry.roots.now tables.entry.scopes.now tables.entry.root tables.entry.variables state.old m s → In (listed (key entry.kind entry.place entry.branch entry.partner entry.pbranch entry.pair) w) (entries (branches m) s) → Enter.Answers (entry_arguments m s (key entry.kind entry.place entry.branch entry.partner entry.pbranch entry.pair)) s (entry_state m s (key entry.kind entry.place entry.branch entry.partner entry.pbranch entry.pair)) result state.new }
 {
+    let mut moving = Moving {
+        tables,
+        state,
+        fresh,
+    };
     if entry.kind == EntryKind::HANDSHAKE {
-        return take_handshake(tables, state, fresh, entry);
+        return take_handshake(&mut moving, entry);
     }
-    take_alone(tables, state, fresh, entry)
+    take_alone(&mut moving, entry)
 }
 
 // Takes entry c of a listing: the state moves, or 17, 18 or 19 leaves it as it is.

@@ -12,8 +12,8 @@ pub arguments_given-requires : goal.arguments_given-requires
 arguments_given-requires c =
     continued c.requires.4
 
-pub returns-then-not-arguments_given : goal.returns-then-not-arguments_given
-returns-then-not-arguments_given c =
+pub returns-then-not-arguments_given-clause-answers : goal.returns-then-not-arguments_given-clause-answers
+returns-then-not-arguments_given-clause-answers c =
     λ m s ps n h. no-17 h (sym (c.arguments_given.ensures ps h.defined.shows) ∙ not-true _ c.if-not-arguments_given.true-raw)
 
 pub process_count-n-requires : goal.process_count-n-requires
@@ -28,8 +28,8 @@ pub overflow_add-n : goal.overflow_add-n
 overflow_add-n c =
     omega (arith, c.process_count-n.ensures.1, c.count_next-count.ensures.1)
 
-pub returns-then-n-count : goal.returns-then-n-count
-returns-then-n-count c =
+pub returns-then-n-count-clause-answers : goal.returns-then-n-count-clause-answers
+returns-then-n-count-clause-answers c =
     λ m s ps n h.
     let g = sym (c.arguments_given.ensures ps h.defined.shows) ∙ not-false _ c.if-not-arguments_given.false-raw in
     let a = c.process_count-n.ensures.0 ∙ processes-are h.stands in
@@ -40,8 +40,8 @@ pub is_overfull-requires : goal.is_overfull-requires
 is_overfull-requires c =
     let h = c.requires.4 in record { model = c.requires.0; state = c.requires.1; change = c.requires.3; changes = changes h }
 
-pub returns-then-is_overfull : goal.returns-then-is_overfull
-returns-then-is_overfull c =
+pub returns-then-is_overfull-clause-answers : goal.returns-then-is_overfull-clause-answers
+returns-then-is_overfull-clause-answers c =
     λ m s ps n h.
     let g = sym (c.arguments_given.ensures ps h.defined.shows) ∙ not-false _ c.if-not-arguments_given.false-raw in
     let a = c.process_count-n.ensures.0 ∙ processes-are h.stands in
@@ -72,16 +72,16 @@ change_pairs-requires c =
     let d = c.count_next-count.ensures.0 m c.args.x.locals.now ps h.defined in
     let l = (cut-tells (length s.processes) (length (next_processes m c.args.x.locals.now ps))).1 h.stands.state.few-processes (omega (arith, a, d, c.if-n-count.false)) in
     let f = not-false _ (sym (c.is_overfull.ensures m s n (changes h)) ∙ c.if-is_overfull.false) in
-    let e = c.replace_process.ensures m s ps (replaces h l) in
+    let e = c.replace_process.ensures.moves m s ps (replaces h l) in
     (m, _, n, changes-then h l _ e, room_after h f)
 
-pub returns : goal.returns
-returns c =
+pub returns-clause-answers : goal.returns-clause-answers
+returns-clause-answers c =
     λ m s ps n h.
     let g = sym (c.arguments_given.ensures ps h.defined.shows) ∙ not-false _ c.if-not-arguments_given.false-raw in
     let a = c.process_count-n.ensures.0 ∙ processes-are h.stands in
     let d = c.count_next-count.ensures.0 m c.args.x.locals.now ps h.defined in
     let l = (cut-tells (length s.processes) (length (next_processes m c.args.x.locals.now ps))).1 h.stands.state.few-processes (omega (arith, a, d, c.if-n-count.false)) in
     let f = not-false _ (sym (c.is_overfull.ensures m s n (changes h)) ∙ c.if-is_overfull.false) in
-    let e = c.replace_process.ensures m s ps (replaces h l) in
+    let e = c.replace_process.ensures.moves m s ps (replaces h l) in
     yes h g l f _ (c.change_pairs.ensures m _ n (changes-then h l _ e) (room_after h f))

@@ -11,16 +11,16 @@ pub arguments_given-requires : goal.arguments_given-requires
 arguments_given-requires c =
     first-continued c.requires.4
 
-pub returns-then-not-arguments_given : goal.returns-then-not-arguments_given
-returns-then-not-arguments_given c =
+pub returns-then-not-arguments_given-clause-answers : goal.returns-then-not-arguments_given-clause-answers
+returns-then-not-arguments_given-clause-answers c =
     λ m s ps qs h. first-17 h (sym (c.arguments_given.ensures ps h.first.shows) ∙ not-true _ c.if-not-arguments_given.true-raw)
 
 pub arguments_given-requires-2 : goal.arguments_given-requires-2
 arguments_given-requires-2 c =
     second-continued c.requires.4
 
-pub returns-then-not-arguments_given-2 : goal.returns-then-not-arguments_given-2
-returns-then-not-arguments_given-2 c =
+pub returns-then-not-arguments_given-2-clause-answers : goal.returns-then-not-arguments_given-2-clause-answers
+returns-then-not-arguments_given-2-clause-answers c =
     λ m s ps qs h.
     let g = sym (c.arguments_given.ensures ps h.first.shows) ∙ not-false _ c.if-not-arguments_given.false-raw in
     second-17 h g (sym (c.arguments_given-2.ensures qs h.second.shows) ∙ not-true _ c.if-not-arguments_given-2.true-raw)
@@ -45,8 +45,8 @@ pub overflow_add-n-2 : goal.overflow_add-n-2
 overflow_add-n-2 c =
     omega (arith, c.process_count-n.ensures.1, c.count_next-count.ensures.1, c.count_next-also.ensures.1)
 
-pub returns-then-n-count : goal.returns-then-n-count
-returns-then-n-count c =
+pub returns-then-n-count-clause-answers : goal.returns-then-n-count-clause-answers
+returns-then-n-count-clause-answers c =
     λ m s ps qs h.
     let g = sym (c.arguments_given.ensures ps h.first.shows) ∙ not-false _ c.if-not-arguments_given.false-raw in
     let f = sym (c.arguments_given-2.ensures qs h.second.shows) ∙ not-false _ c.if-not-arguments_given-2.false-raw in
@@ -70,8 +70,8 @@ replace_both-requires c =
     let l = k.1 (omega (arith, a, d, e, c.if-n-count.false)) in
     (m, s, ps, qs, in_order h l c.if-x-y.true)
 
-pub returns-then-x-y : goal.returns-then-x-y
-returns-then-x-y c =
+pub returns-then-x-y-clause-answers : goal.returns-then-x-y-clause-answers
+returns-then-x-y-clause-answers c =
     λ m s ps qs h.
     let g = sym (c.arguments_given.ensures ps h.first.shows) ∙ not-false _ c.if-not-arguments_given.false-raw in
     let f = sym (c.arguments_given-2.ensures qs h.second.shows) ∙ not-false _ c.if-not-arguments_given-2.false-raw in
@@ -80,7 +80,7 @@ returns-then-x-y c =
     let e = c.count_next-also.ensures.0 m c.args.y.locals.now qs h.second in
     let k = cut-both (length s.processes) (length (next_processes m c.args.x.locals.now ps)) (length (next_processes m c.args.y.locals.now qs)) in
     let l = k.1 (omega (arith, a, d, e, c.if-n-count.false)) in
-    both_yes h g f l _ (c.replace_both.ensures m s ps qs (in_order h l c.if-x-y.true))
+    both_yes h g f l _ (c.replace_both.ensures.moves m s ps qs (in_order h l c.if-x-y.true))
 
 pub replace_both-requires-2 : goal.replace_both-requires-2
 replace_both-requires-2 c =
@@ -96,8 +96,8 @@ replace_both-requires-2 c =
     let l = k.1 (omega (arith, a, d, e, c.if-n-count.false)) in
     (m, s, qs, ps, turned h l (omega (arith, c.if-x-y.false)))
 
-pub returns : goal.returns
-returns c =
+pub returns-clause-answers : goal.returns-clause-answers
+returns-clause-answers c =
     λ m s ps qs h.
     let g = sym (c.arguments_given.ensures ps h.first.shows) ∙ not-false _ c.if-not-arguments_given.false-raw in
     let f = sym (c.arguments_given-2.ensures qs h.second.shows) ∙ not-false _ c.if-not-arguments_given-2.false-raw in
@@ -106,4 +106,4 @@ returns c =
     let e = c.count_next-also.ensures.0 m c.args.y.locals.now qs h.second in
     let k = cut-both (length s.processes) (length (next_processes m c.args.x.locals.now ps)) (length (next_processes m c.args.y.locals.now qs)) in
     let l = k.1 (omega (arith, a, d, e, c.if-n-count.false)) in
-    both_yes h g f l _ (c.replace_both-2.ensures m s qs ps (turned h l (omega (arith, c.if-x-y.false))) ∙ turned_same h)
+    both_yes h g f l _ (c.replace_both-2.ensures.moves m s qs ps (turned h l (omega (arith, c.if-x-y.false))) ∙ turned_same h)

@@ -15,23 +15,23 @@ put_processes-n-requires c =
 pub splice-requires : goal.splice-requires
 splice-requires c =
     let h = c.requires.3 in
-    let w = rows-put h _ _ _ (omega arith) (c.put_processes-n.ensures c.requires.0 c.requires.2 (continues c.args.tables.nodes.now c.args.tables.root c.args.tables.variables c.args.x.next c.in-Some.k c.in-Some.is h.defined) h.scoped) in
+    let w = rows-put h _ _ _ (omega arith) (c.put_processes-n.ensures c.requires.0 c.requires.2 (continues c.args.moving.now.tables.nodes.now c.args.moving.now.tables.root c.args.moving.now.tables.variables c.args.x.next c.in-Some.k c.in-Some.is h.defined) h.scoped) in
     splice-asks h _ _ w.0 w.2
 
 pub splice-requires-in-None : goal.splice-requires-in-None
 splice-requires-in-None c =
     let h = c.requires.3 in
-    splice-asks h 0 _ (sym (ap (λ (xs : List Process). length xs) (none-next c.args.tables.nodes.now c.args.tables.root c.args.tables.variables c.args.x.next c.in-None.is h.defined))) (omega arith)
+    splice-asks h 0 _ (sym (ap (λ (xs : List Process). length xs) (none-next c.args.moving.now.tables.nodes.now c.args.moving.now.tables.root c.args.moving.now.tables.variables c.args.x.next c.in-None.is h.defined))) (omega arith)
 
-pub returns-in-Some : goal.returns-in-Some
-returns-in-Some c =
+pub returns-in-Some-clause-moves : goal.returns-in-Some-clause-moves
+returns-in-Some-clause-moves c =
     λ m s ps h.
-    let w = rows-put h _ _ _ (omega arith) (c.put_processes-n.ensures m ps (continues c.args.tables.nodes.now c.args.tables.root c.args.tables.variables c.args.x.next c.in-Some.k c.in-Some.is h.defined) h.scoped) in
+    let w = rows-put h _ _ _ (omega arith) (c.put_processes-n.ensures m ps (continues c.args.moving.now.tables.nodes.now c.args.moving.now.tables.root c.args.moving.now.tables.variables c.args.x.next c.in-Some.k c.in-Some.is h.defined) h.scoped) in
     replaced h _ _ _ w.0 w.1 c.splice.ensures
 
-pub returns-in-None : goal.returns-in-None
+pub returns-in-None-clause-moves : goal.returns-in-None-clause-moves
 unfolding flatten
-returns-in-None c =
+returns-in-None-clause-moves c =
     λ m s ps h.
-    let e = none-next c.args.tables.nodes.now c.args.tables.root c.args.tables.variables c.args.x.next c.in-None.is h.defined in
+    let e = none-next c.args.moving.now.tables.nodes.now c.args.moving.now.tables.root c.args.moving.now.tables.variables c.args.x.next c.in-None.is h.defined in
     replaced h 0 [] _ (sym (ap (λ (xs : List Process). length xs) e)) (sym (ap (flatten process_numbers) e)) c.splice-in-None.ensures

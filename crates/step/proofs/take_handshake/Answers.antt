@@ -21,7 +21,7 @@ sent_values-values-requires c =
     let h = c.requires.4 in
     let w = c.enter-sender.ensures m s x.process x.branch x.guard h.sender in
     let u = bare in
-    record { nodes = c.args.tables.nodes.now; locals = x.process.locals; guard = x.guard; shows = w.offer }
+    record { nodes = c.args.moving.now.tables.nodes.now; locals = x.process.locals; guard = x.guard; shows = w.offer }
 
 pub enter-receiver-requires : goal.enter-receiver-requires
 enter-receiver-requires c =
@@ -41,15 +41,15 @@ move_both-requires c =
     let h = c.requires.4 in
     let w = c.enter-sender.ensures m s x.process x.branch x.guard h.sender in
     let u = bare in
-    let v = c.sent_values-values.ensures c.args.tables.nodes.now x.process.locals x.guard w.offer in
+    let v = c.sent_values-values.ensures c.args.moving.now.tables.nodes.now x.process.locals x.guard w.offer in
     let e = c.enter-receiver.ensures m s y.process y.branch y.guard h.receiver in
     rw (c.deref.ensures.0, c.deref-2.ensures.0) (m, s, x.branch.next, y.branch.next, meets-of h _ u _ w _ v _ e)
 
-pub returns : goal.returns
-returns c =
+pub returns-clause-answers : goal.returns-clause-answers
+returns-clause-answers c =
     λ m s x y h.
     let w = c.enter-sender.ensures m s x.process x.branch x.guard h.sender in
     let u = bare in
-    let v = c.sent_values-values.ensures c.args.tables.nodes.now x.process.locals x.guard w.offer in
+    let v = c.sent_values-values.ensures c.args.moving.now.tables.nodes.now x.process.locals x.guard w.offer in
     let e = c.enter-receiver.ensures m s y.process y.branch y.guard h.receiver in
-    meets-answers h _ u _ w _ v _ e _ _ ((rw (c.deref.ensures.0, c.deref-2.ensures.0) at c.move_both.ensures m s x.branch.next y.branch.next) (meets-of h _ u _ w _ v _ e))
+    meets-answers h _ u _ w _ v _ e _ _ ((rw (c.deref.ensures.0, c.deref-2.ensures.0) at c.move_both.ensures.answers m s x.branch.next y.branch.next) (meets-of h _ u _ w _ v _ e))

@@ -29,6 +29,7 @@ use Rattle.eval.specs.Held.{Held, Worth}
 use Rattle.eval.specs.Next as become
 use Rattle.eval.specs.Next.{Next, ShowsNext, Continues, Continuation, Spaced, Rows, cut, most}
 use Rattle.eval.proofs.Rows.{filled}
+use Rattle.step.specs.declared.Moving.{Moving}
 use Rattle.step.specs.Enter.{Continued, Defined, Replaces, entering}
 use Rattle.step.proofs.Tables.{few, fits, passed, long, processes-are}
 
@@ -85,8 +86,8 @@ cut-tells a n = go (ltb most n) refl
     go false e = (λ h. h, λ f h. h)
 
 -- ---- the state with the process at a place replaced
-module _ {t scopes : List ℕ} {root variables : ℕ} {zs : List ℤ} {i : ℕ} {ls : List ℤ} {r : Next} {m : Resolved.Model} {s : State} {ps : List Resolved.Part}
-    (h : Replaces t scopes root variables zs i ls r m s ps) where
+module _ {d : Moving} {i : ℕ} {ls : List ℤ} {r : Next} {m : Resolved.Model} {s : State} {ps : List Resolved.Part}
+    (h : Replaces d i ls r m s ps) where
   next_fits : Every (FitsProcess (scopes_of m)) (next_processes m ls ps)
   unfolding Every Ascending
   next_fits = (good-fits m (record { processes = next_processes m ls ps; pairs = [] }) h.stands.good (record {
@@ -100,18 +101,18 @@ module _ {t scopes : List ℕ} {root variables : ℕ} {zs : List ℤ} {i : ℕ} 
   pub rows-wide : length (flatten process_numbers (next_processes m ls ps)) ≡ length (next_processes m ls ps) * process_width
   rows-wide = flatten-length process_numbers process_width (FitsProcess (scopes_of m)) (process-wide (scopes_of m) (few h.stands)) (next_processes m ls ps) next_fits
 
-  pub spaced : (k size : ℕ) → r ≡ Some k → size ≡ process_room → Spaced t scopes root variables ls k size 0
-  spaced k size e l = record { model = m; scoped = h.scoped; parts = ps; holds = continues t root variables r k e h.defined; fits = omega (arith, h.inside, h.room) }
+  pub spaced : (k size : ℕ) → r ≡ Some k → size ≡ process_room → Spaced d.tables.nodes.now d.tables.scopes.now d.tables.root d.tables.variables ls k size 0
+  spaced k size e l = record { model = m; scoped = h.scoped; parts = ps; holds = continues d.tables.nodes.now d.tables.root d.tables.variables r k e h.defined; fits = omega (arith, h.inside, h.room) }
 
   -- what splice asks
   pub splice-asks : (count size : ℕ) → count ≡ length (next_processes m ls ps) → size ≡ process_room
-      → (length zs ≡ state_length) × (i < 256) × (is_below 257 (at zs 0) ≡ true) × (1 ≤ nat_abs (at zs 0)) × (count + i ≤ 256) × (count * process_width ≤ size)
+      → (length d.state.now ≡ state_length) × (i < 256) × (is_below 257 (at d.state.now 0) ≡ true) × (1 ≤ nat_abs (at d.state.now 0)) × (count + i ≤ 256) × (count * process_width ≤ size)
   splice-asks count size e l =
       let n = processes-are h.stands in
       let f = h.stands.state.few-processes in
-      (long h.stands, omega (arith, h.inside), processes-below zs (passed h.stands), omega (arith, h.inside, n), omega (arith, h.inside, h.room), omega (arith, h.inside, h.room))
+      (long h.stands, omega (arith, h.inside), processes-below d.state.now (passed h.stands), omega (arith, h.inside, n), omega (arith, h.inside, h.room), omega (arith, h.inside, h.room))
 
-  pub replaced : (count : ℕ) (new zs' : List ℤ) → count ≡ length (next_processes m ls ps) → new ≡ flatten process_numbers (next_processes m ls ps) → zs' ≡ process_replaced i count new zs → zs' ≡ state_numbers (entering m s i ls ps)
+  pub replaced : (count : ℕ) (new zs' : List ℤ) → count ≡ length (next_processes m ls ps) → new ≡ flatten process_numbers (next_processes m ls ps) → zs' ≡ process_replaced i count new d.state.now → zs' ≡ state_numbers (entering m s i ls ps)
   unfolding entering
   replaced count new zs' e f g =
       g ∙ ap (process_replaced i count new) h.stands.numbers

@@ -14,20 +14,21 @@ use Rattle.machine.specs.State.{State}
 use Rattle.eval.specs.declared.Values.{Values}
 use Rattle.std.specs.Prelude.{Option as RustOption}
 use Rattle.step.specs.declared.Entered.{Entered}
+use Rattle.step.specs.declared.Moving.{Moving}
 use Rattle.step.specs.Enter.{Acts, Enters, values_of, locals_of, Fit, Alone, AloneEntry, Answers, entering, changed, both_entering, Meets, Side, sent, received, HandEntry, Taken}
 use Rattle.step.proofs.Offers.{shows-change}
 use Rattle.step.proofs.Tables.{scoped_of}
 
-module _ {t roots scopes : List ℕ} {root variables : ℕ} {zs : List ℤ} {i j q : ℕ} {m : Resolved.Model} {s : State} {p : Process} {b : Resolved.Branch} {g : offers.Guard}
-    (h : AloneEntry t roots scopes root variables zs i j q m s p b g) where
-  pub acts-of : Acts t roots scopes zs i j m s p b g
-  acts-of = record { root = root; variables = variables; lent = h.lent; at = h.at; evaluates = h.evaluates }
+module _ {d : Moving} {i j q : ℕ} {m : Resolved.Model} {s : State} {p : Process} {b : Resolved.Branch} {g : offers.Guard}
+    (h : AloneEntry d i j q m s p b g) where
+  pub acts-of : Acts d.tables.nodes.now d.tables.roots.now d.tables.scopes.now d.state.now i j m s p b g
+  acts-of = record { root = d.tables.root; variables = d.tables.variables; lent = h.lent; at = h.at; evaluates = h.evaluates }
 
-  module _ (us : RustOption Values) (v : values_of us ≡ values_at s.pairs q) (r : Entered) (w : Enters t p b g (values_of us) r) where
+  module _ (us : RustOption Values) (v : values_of us ≡ values_at s.pairs q) (r : Entered) (w : Enters d.tables.nodes.now p b g (values_of us) r) where
     pub locals-bound : r.locals.items ≡ locals_of p (values_at s.pairs q) g
     locals-bound = w.locals ∙ ap (λ (x : List ℤ). locals_of p x g) v
 
-    pub alone_of : Alone t scopes root variables zs i r.locals.items r.next r.offer m s b.next (on_action unchanged change_of g)
+    pub alone_of : Alone d i r.locals.items r.next r.offer m s b.next (on_action unchanged change_of g)
     alone_of = record {
       scoped = scoped_of h.lent;
       stands = h.lent.stands;
@@ -38,7 +39,7 @@ module _ {t roots scopes : List ℕ} {root variables : ℕ} {zs : List ℤ} {i j
         fit = subst (λ (x : List ℤ). Fit m x b.next) (sym locals-bound) h.fit;
       };
       inside = nth_inside h.at.place;
-      shows = shows-change t p.locals r.offer g w.offer;
+      shows = shows-change d.tables.nodes.now p.locals r.offer g w.offer;
       good = h.good;
     }
 
@@ -46,19 +47,19 @@ module _ {t roots scopes : List ℕ} {root variables : ℕ} {zs : List ℤ} {i j
         → Answers (arguments_given (locals_of p (values_at s.pairs q) g) b.next) s (changed (entering m s i (locals_of p (values_at s.pairs q) g) b.next) (on_action unchanged change_of g)) a zs'
     alone-answers a zs' x = subst (λ (y : List ℤ). Answers (arguments_given y b.next) s (changed (entering m s i y b.next) (on_action unchanged change_of g)) a zs') locals-bound x
 
-module _ {t roots scopes : List ℕ} {root variables : ℕ} {zs : List ℤ} {i j k n : ℕ} {m : Resolved.Model} {s : State} {x y : Side}
-    (h : HandEntry t roots scopes root variables zs i j k n m s x y) where
-  module _ (us : RustOption Values) (u : values_of us ≡ []) (r : Entered) (w : Enters t x.process x.branch x.guard (values_of us) r) where
+module _ {d : Moving} {i j k n : ℕ} {m : Resolved.Model} {s : State} {x y : Side}
+    (h : HandEntry d i j k n m s x y) where
+  module _ (us : RustOption Values) (u : values_of us ≡ []) (r : Entered) (w : Enters d.tables.nodes.now x.process x.branch x.guard (values_of us) r) where
     pub sender-locals : r.locals.items ≡ sent x
     unfolding sent
     sender-locals = w.locals ∙ ap (λ (z : List ℤ). locals_of x.process z x.guard) u
 
-    module _ (vs : RustOption Values) (v : values_of vs ≡ on_action [] sent_by x.guard) (q : Entered) (e : Enters t y.process y.branch y.guard (values_of vs) q) where
+    module _ (vs : RustOption Values) (v : values_of vs ≡ on_action [] sent_by x.guard) (q : Entered) (e : Enters d.tables.nodes.now y.process y.branch y.guard (values_of vs) q) where
       pub receiver-locals : q.locals.items ≡ received x y
       unfolding received
       receiver-locals = e.locals ∙ ap (λ (z : List ℤ). locals_of y.process z y.guard) v
 
-      pub meets-of : Meets t scopes root variables zs i r.locals.items r.next k q.locals.items q.next m s x.branch.next y.branch.next
+      pub meets-of : Meets d i r.locals.items r.next k q.locals.items q.next m s x.branch.next y.branch.next
       meets-of = record {
         scoped = scoped_of h.sender.lent;
         stands = h.sender.lent.stands;

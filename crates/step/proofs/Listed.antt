@@ -30,6 +30,7 @@ use Rattle.machine.proofs.Parts.{comes}
 use Rattle.machine.proofs.Ranges.{GoodOffer, action-good}
 use Rattle.machine.proofs.Bound.{names-bound, label-action, BoundGood, alone-bound, accepted-bound}
 use Rattle.machine.proofs.Continues.{at-good}
+use Rattle.step.specs.declared.Moving.{Moving}
 use Rattle.step.specs.Enter.{Lent, Fit, GoodNew, locals_of, changed, entering, AloneEntry, both_entering, Side, sent, received, HandEntry, Answers, Taken}
 
 offered-change : {lit : List offers.Pair} {g : offers.Guard} {a : offers.Action} {r q : ℕ} {n : Change} {vs : List ℤ} → Offered lit g (label a r q n vs) → on_action unchanged change_of g ≡ change_of a
@@ -108,7 +109,7 @@ module _ (m : Resolved.Model) (s : State) where
         rw (none-bound x.guard, nth-get h.place, nth-get (nth-map (offered m x.process.locals) h.branch), nth-get h'.place, nth-get (nth-map (offered m y.process.locals) h'.branch), guard-is m x.process.locals x.branch e, guard-is m y.process.locals y.branch e') refl
 
 -- ---- listed entries
-module _ {t roots scopes : List ℕ} {root variables : ℕ} {zs : List ℤ} {m : Resolved.Model} {s : State} (lent : Lent t roots scopes root variables zs m s) where
+module _ (d : Moving) {m : Resolved.Model} {s : State} (lent : Lent d.tables.nodes.now d.tables.roots.now d.tables.scopes.now d.tables.root d.tables.variables d.state.now m s) where
   fit_of : {i j : ℕ} {p : Process} {b : Resolved.Branch} (a : offers.Action) (vs : List ℤ) → BranchAt m s.processes i j p b → eval_action p.locals b.action ≡ some a → BoundGood a vs → Fit m (p.locals ++ vs) b.next
   fit_of {p = p} {b = b} a vs h e g =
       let process = every-nth (GoodProcess m) lent.stands.state.processes h.place in
@@ -126,12 +127,12 @@ module _ {t roots scopes : List ℕ} {root variables : ℕ} {zs : List ℤ} {m :
     pub process : Process
     pub branch : Resolved.Branch
     pub guard : offers.Guard
-    pub entry : AloneEntry t roots scopes root variables zs i j q m s process branch guard
+    pub entry : AloneEntry d i j q m s process branch guard
 
   pub record HandListed (i j k n : ℕ) : Type 0 where
     pub sender : Side
     pub receiver : Side
-    pub entry : HandEntry t roots scopes root variables zs i j k n m s sender receiver
+    pub entry : HandEntry d i j k n m s sender receiver
 
   alone-moves : {c i j k n q w : ℕ} {d : Change} {ps : List Process} → (c ≡ 7 → ⊥) → Moves (branches m) s (key c i j k n q) w d ps → AloneListed i j q
   unfolding locals_of
@@ -177,8 +178,8 @@ module _ {t roots scopes : List ℕ} {root variables : ℕ} {zs : List ℤ} {m :
         sender = x;
         receiver = y;
         entry = record {
-          sender = record { root = root; variables = variables; lent = lent; at = v.at; evaluates = v.evaluates };
-          receiver = record { root = root; variables = variables; lent = lent; at = w.at; evaluates = w.evaluates };
+          sender = record { root = d.tables.root; variables = d.tables.variables; lent = lent; at = v.at; evaluates = v.evaluates };
+          receiver = record { root = d.tables.root; variables = d.tables.variables; lent = lent; at = w.at; evaluates = w.evaluates };
           defines = lent.represents.definition;
           apart = t.apart;
           sender-fit = rw (none-bound v.guard) (fit_of (offers.send t.pair) [] v.at e (record { number = refl; values = tt }));

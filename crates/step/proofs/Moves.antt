@@ -22,6 +22,7 @@ use Rattle.std.specs.Prelude.{Option as RustOption}
 use Rattle.eval.specs.declared.offer.Offer.{Offer}
 use Rattle.eval.specs.Next.{Next, cut, most}
 use Rattle.step.specs.declared.Refusal.TheVariants.{Arguments, Processes, Pairs}
+use Rattle.step.specs.declared.Moving.{Moving}
 use Rattle.step.specs.Enter.{Stands, Continued, Replaces, entering, Changes, changed, verdict, state_of, Answers, Alone, Both, both_entering, Meets, Taken}
 
 pub not-true : (b : Bool) → not b ≡ true → b ≡ false
@@ -59,8 +60,8 @@ cut-both a n p = go (ltb most n) refl (ltb most p) refl
     go false e false f = (λ h. h, λ h. h)
 
 -- ---- the state after one replacement
-module _ {t scopes : List ℕ} {root variables : ℕ} {zs : List ℤ} {i : ℕ} {ls : List ℤ} {r : Next} {m : Resolved.Model} {s : State} {ps : List Resolved.Part}
-    (h : Replaces t scopes root variables zs i ls r m s ps) where
+module _ {d : Moving} {i : ℕ} {ls : List ℤ} {r : Next} {m : Resolved.Model} {s : State} {ps : List Resolved.Part}
+    (h : Replaces d i ls r m s ps) where
   pub entering-length : length (entering m s i ls ps).processes + 1 ≡ length s.processes + length (next_processes m ls ps)
   unfolding entering
   entering-length = replace-length i (next_processes m ls ps) s.processes h.inside
@@ -80,15 +81,15 @@ module _ {t scopes : List ℕ} {root variables : ℕ} {zs : List ℤ} {i : ℕ} 
   }
 
 -- ---- a process by itself
-module _ {t scopes : List ℕ} {root variables : ℕ} {zs : List ℤ} {i : ℕ} {ls : List ℤ} {next : Next} {offer : RustOption Offer} {m : Resolved.Model} {s : State} {ps : List Resolved.Part} {n : Change}
-    (h : Alone t scopes root variables zs i ls next offer m s ps n) where
-  pub continued : Continued t ls next
+module _ {d : Moving} {i : ℕ} {ls : List ℤ} {next : Next} {offer : RustOption Offer} {m : Resolved.Model} {s : State} {ps : List Resolved.Part} {n : Change}
+    (h : Alone d i ls next offer m s ps n) where
+  pub continued : Continued d.tables.nodes.now ls next
   continued = record { model = m; parts = ps; shows = h.defined.shows; fit = h.defined.fit }
 
-  pub changes : Changes zs offer m s n
+  pub changes : Changes d.state.now offer m s n
   changes = record { stands = h.stands; shows = h.shows; good = h.good }
 
-  pub replaces : length s.processes + length (next_processes m ls ps) ≤ 257 → Replaces t scopes root variables zs i ls next m s ps
+  pub replaces : length s.processes + length (next_processes m ls ps) ≤ 257 → Replaces d i ls next m s ps
   replaces l = record { scoped = h.scoped; stands = h.stands; defined = h.defined; inside = h.inside; room = l }
 
   pub changes-then : (l : length s.processes + length (next_processes m ls ps) ≤ 257) (zs' : List ℤ) → zs' ≡ state_numbers (entering m s i ls ps) → Changes zs' offer m (entering m s i ls ps) n
@@ -100,18 +101,18 @@ module _ {t scopes : List ℕ} {root variables : ℕ} {zs : List ℤ} {i : ℕ} 
   after-length : length (replace i (next_processes m ls ps) s.processes) + 1 ≡ length s.processes + length (next_processes m ls ps)
   after-length = replace-length i (next_processes m ls ps) s.processes h.inside
 
-  pub no-17 : arguments_given ls ps ≡ false → Gives (Err Arguments) zs
+  pub no-17 : arguments_given ls ps ≡ false → Gives (Err Arguments) d.state.now
   unfolding verdict state_of
   no-17 e = record { is = rw e refl; numbers = h.stands.numbers }
 
-  pub no-18 : arguments_given ls ps ≡ true → 257 < length s.processes + length (next_processes m ls ps) → Gives (Err Processes) zs
+  pub no-18 : arguments_given ls ps ≡ true → 257 < length s.processes + length (next_processes m ls ps) → Gives (Err Processes) d.state.now
   unfolding verdict state_of changed entering
   no-18 e l = record { is = rw (e, lt-leb (length (replace i (next_processes m ls ps) s.processes)) 256 (omega (arith, after-length, l))) refl; numbers = h.stands.numbers }
 
   few : length s.processes + length (next_processes m ls ps) ≤ 257 → leb (length (replace i (next_processes m ls ps) s.processes)) 256 ≡ true
   few l = le-leb (length (replace i (next_processes m ls ps) s.processes)) 256 (omega (arith, after-length, l))
 
-  pub no-19 : arguments_given ls ps ≡ true → length s.processes + length (next_processes m ls ps) ≤ 257 → leb (length (pairs_after n s.pairs)) 256 ≡ false → Gives (Err Pairs) zs
+  pub no-19 : arguments_given ls ps ≡ true → length s.processes + length (next_processes m ls ps) ≤ 257 → leb (length (pairs_after n s.pairs)) 256 ≡ false → Gives (Err Pairs) d.state.now
   unfolding verdict state_of changed entering
   no-19 e l f = record { is = rw (e, few l, f) refl; numbers = h.stands.numbers }
 
@@ -125,17 +126,17 @@ module _ {t scopes : List ℕ} {root variables : ℕ} {zs : List ℤ} {i : ℕ} 
   room_after f = leb-true (length (pairs_after n s.pairs)) 256 f
 
 -- ---- two processes
-module _ {t scopes : List ℕ} {root variables : ℕ} {zs : List ℤ} {i : ℕ} {ls : List ℤ} {next : Next} {k : ℕ} {us : List ℤ} {other : Next} {m : Resolved.Model} {s : State} {ps qs : List Resolved.Part}
-    (h : Both t scopes root variables zs i ls next k us other m s ps qs) where
+module _ {d : Moving} {i : ℕ} {ls : List ℤ} {next : Next} {k : ℕ} {us : List ℤ} {other : Next} {m : Resolved.Model} {s : State} {ps qs : List Resolved.Part}
+    (h : Both d i ls next k us other m s ps qs) where
   module _ (z : length (next_processes m ls ps) ≡ 0) where
-    pub first_goes : Replaces t scopes root variables zs i ls next m s ps
+    pub first_goes : Replaces d i ls next m s ps
     first_goes = record { scoped = h.scoped; stands = h.stands; defined = h.first; inside = omega (arith, h.order, h.inside); room = omega (arith, h.stands.state.few-processes, z) }
 
-    pub second-next : (zs' : List ℤ) → zs' ≡ state_numbers (entering m s i ls ps) → Replaces t scopes root variables zs' (k - 1) us other m (entering m s i ls ps) qs
-    second-next zs' e = record {
-      scoped = h.scoped;
-      stands = entering-stands first_goes zs' e;
-      defined = h.second;
+    pub second-next : (d' : Moving) → d'.tables ≡ d.tables → d'.state.now ≡ state_numbers (entering m s i ls ps) → Replaces d' (k - 1) us other m (entering m s i ls ps) qs
+    second-next d' q e = record {
+      scoped = rw q h.scoped;
+      stands = entering-stands first_goes d'.state.now e;
+      defined = rw q h.second;
       inside = omega (arith, entering-length first_goes, h.order, h.inside, z);
       room = omega (arith, entering-length first_goes, h.room, z, h.order, h.inside);
     }
@@ -148,14 +149,14 @@ module _ {t scopes : List ℕ} {root variables : ℕ} {zs : List ℤ} {i : ℕ} 
         sym (ap (λ (xs : List Process). state_numbers (record { processes = xs; pairs = s.pairs })) (e ∙ ap (λ (j : ℕ). replace j (next_processes m us qs) (replace i (next_processes m ls ps) s.processes)) q))
 
   module _ (z : 1 ≤ length (next_processes m ls ps)) where
-    pub second-goes : Replaces t scopes root variables zs k us other m s qs
+    pub second-goes : Replaces d k us other m s qs
     second-goes = record { scoped = h.scoped; stands = h.stands; defined = h.second; inside = h.inside; room = omega (arith, h.room, z) }
 
-    pub first_next : (zs' : List ℤ) → zs' ≡ state_numbers (entering m s k us qs) → Replaces t scopes root variables zs' i ls next m (entering m s k us qs) ps
-    first_next zs' e = record {
-      scoped = h.scoped;
-      stands = entering-stands second-goes zs' e;
-      defined = h.first;
+    pub first_next : (d' : Moving) → d'.tables ≡ d.tables → d'.state.now ≡ state_numbers (entering m s k us qs) → Replaces d' i ls next m (entering m s k us qs) ps
+    first_next d' q e = record {
+      scoped = rw q h.scoped;
+      stands = entering-stands second-goes d'.state.now e;
+      defined = rw q h.first;
       inside = omega (arith, entering-length second-goes, h.order, h.inside);
       room = omega (arith, entering-length second-goes, h.room);
     }
@@ -165,29 +166,29 @@ module _ {t scopes : List ℕ} {root variables : ℕ} {zs : List ℤ} {i : ℕ} 
     second-both = sym (ap (λ (xs : List Process). state_numbers (record { processes = xs; pairs = s.pairs })) (later_first i (next_processes m ls ps) k (next_processes m us qs) s.processes h.order))
 
 -- ---- a handshake
-module _ {t scopes : List ℕ} {root variables : ℕ} {zs : List ℤ} {i : ℕ} {ls : List ℤ} {next : Next} {k : ℕ} {us : List ℤ} {other : Next} {m : Resolved.Model} {s : State} {ps qs : List Resolved.Part}
-    (h : Meets t scopes root variables zs i ls next k us other m s ps qs) where
-  pub first-continued : Continued t ls next
+module _ {d : Moving} {i : ℕ} {ls : List ℤ} {next : Next} {k : ℕ} {us : List ℤ} {other : Next} {m : Resolved.Model} {s : State} {ps qs : List Resolved.Part}
+    (h : Meets d i ls next k us other m s ps qs) where
+  pub first-continued : Continued d.tables.nodes.now ls next
   first-continued = record { model = m; parts = ps; shows = h.first.shows; fit = h.first.fit }
 
-  pub second-continued : Continued t us other
+  pub second-continued : Continued d.tables.nodes.now us other
   second-continued = record { model = m; parts = qs; shows = h.second.shows; fit = h.second.fit }
 
   abbrev Comes : Taken → List ℤ → Type 0
   Comes r zs' = Answers (arguments_given ls ps && arguments_given us qs) s (both_entering m s i ls ps k us qs) r zs'
 
-  pub first-17 : arguments_given ls ps ≡ false → Comes (Err Arguments) zs
+  pub first-17 : arguments_given ls ps ≡ false → Comes (Err Arguments) d.state.now
   unfolding verdict state_of
   first-17 e = record { is = rw e refl; numbers = h.stands.numbers }
 
-  pub second-17 : arguments_given ls ps ≡ true → arguments_given us qs ≡ false → Comes (Err Arguments) zs
+  pub second-17 : arguments_given ls ps ≡ true → arguments_given us qs ≡ false → Comes (Err Arguments) d.state.now
   unfolding verdict state_of
   second-17 e f = record { is = rw (e, f) refl; numbers = h.stands.numbers }
 
   both-length : length (replace_both i (next_processes m ls ps) k (next_processes m us qs) s.processes) + 2 ≡ length s.processes + length (next_processes m ls ps) + length (next_processes m us qs)
   both-length = replace_both-length i (next_processes m ls ps) k (next_processes m us qs) s.processes h.apart h.first-inside h.second-inside
 
-  pub both-18 : arguments_given ls ps ≡ true → arguments_given us qs ≡ true → 258 < length s.processes + length (next_processes m ls ps) + length (next_processes m us qs) → Comes (Err Processes) zs
+  pub both-18 : arguments_given ls ps ≡ true → arguments_given us qs ≡ true → 258 < length s.processes + length (next_processes m ls ps) + length (next_processes m us qs) → Comes (Err Processes) d.state.now
   unfolding verdict state_of both_entering
   both-18 e f l = record {
     is = rw (e, f, lt-leb (length (replace_both i (next_processes m ls ps) k (next_processes m us qs) s.processes)) 256 (omega (arith, both-length, l))) refl;
@@ -203,10 +204,10 @@ module _ {t scopes : List ℕ} {root variables : ℕ} {zs : List ℤ} {i : ℕ} 
   }
 
   module _ (l : length s.processes + length (next_processes m ls ps) + length (next_processes m us qs) ≤ 258) where
-    pub in_order : i < k → Both t scopes root variables zs i ls next k us other m s ps qs
+    pub in_order : i < k → Both d i ls next k us other m s ps qs
     in_order o = record { scoped = h.scoped; stands = h.stands; first = h.first; second = h.second; order = o; inside = h.second-inside; room = l }
 
-    pub turned : k ≤ i → Both t scopes root variables zs k us other i ls next m s qs ps
+    pub turned : k ≤ i → Both d k us other i ls next m s qs ps
     turned o = record { scoped = h.scoped; stands = h.stands; first = h.second; second = h.first; order = omega (arith, o, h.apart); inside = h.first-inside; room = omega (arith, l) }
 
   pub turned_same : state_numbers (both_entering m s k us qs i ls ps) ≡ state_numbers (both_entering m s i ls ps k us qs)

@@ -25,6 +25,7 @@ use Rattle.step.specs.declared.Refusal.TheVariants.{Arguments, Processes, Pairs}
 use Rattle.eval.specs.declared.Values.{Values}
 use Rattle.eval.specs.declared.Values.TheVariants.{One, Two}
 use Rattle.step.specs.declared.Entered.{Entered}
+use Rattle.step.specs.declared.Moving.{Moving}
 
 -- 01, State: zs are the numbers of a state over a model
 pub record Stands (zs : List ℤ) (m : Resolved.Model) (s : State) : Type 0 where
@@ -122,10 +123,10 @@ unfoldable pub entering : Resolved.Model → State → ℕ → List ℤ → List
 entering m s i ls ps = record { processes = replace i (next_processes m ls ps) s.processes; pairs = s.pairs }
 
 -- the process at place i can be replaced
-pub record Replaces (t scopes : List ℕ) (root variables : ℕ) (zs : List ℤ) (i : ℕ) (ls : List ℤ) (r : Next) (m : Resolved.Model) (s : State) (ps : List Resolved.Part) : Type 0 where
-  pub scoped : Scoped scopes m
-  pub stands : Stands zs m s
-  pub defined : Defined t root variables m ls ps r
+pub record Replaces (d : Moving) (i : ℕ) (ls : List ℤ) (r : Next) (m : Resolved.Model) (s : State) (ps : List Resolved.Part) : Type 0 where
+  pub scoped : Scoped d.tables.scopes.now m
+  pub stands : Stands d.state.now m s
+  pub defined : Defined d.tables.nodes.now d.tables.root d.tables.variables m ls ps r
   pub inside : i < length s.processes
   pub room : length s.processes + length (next_processes m ls ps) ≤ process_limit + 1
 
@@ -197,10 +198,10 @@ pub record Answers (given : Bool) (s s' : State) (r : Taken) (zs : List ℤ) : T
   pub numbers : zs ≡ state_numbers (state_of r s s')
 
 -- 01, Step: a process that acts by itself, with its continuation and its change of the pairs
-pub record Alone (t scopes : List ℕ) (root variables : ℕ) (zs : List ℤ) (i : ℕ) (ls : List ℤ) (next : Next) (offer : RustOption Offer) (m : Resolved.Model) (s : State) (ps : List Resolved.Part) (n : Change) : Type 0 where
-  pub scoped : Scoped scopes m
-  pub stands : Stands zs m s
-  pub defined : Defined t root variables m ls ps next
+pub record Alone (d : Moving) (i : ℕ) (ls : List ℤ) (next : Next) (offer : RustOption Offer) (m : Resolved.Model) (s : State) (ps : List Resolved.Part) (n : Change) : Type 0 where
+  pub scoped : Scoped d.tables.scopes.now m
+  pub stands : Stands d.state.now m s
+  pub defined : Defined d.tables.nodes.now d.tables.root d.tables.variables m ls ps next
   pub inside : i < length s.processes
   pub shows : ShowsChange offer n
   pub good : GoodNew m n
@@ -210,21 +211,21 @@ unfoldable pub both_entering : Resolved.Model → State → ℕ → List ℤ →
 both_entering m s i ls ps k us qs = record { processes = replace_both i (next_processes m ls ps) k (next_processes m us qs) s.processes; pairs = s.pairs }
 
 -- two processes, the first at i, for which there is room
-pub record Both (t scopes : List ℕ) (root variables : ℕ) (zs : List ℤ) (i : ℕ) (ls : List ℤ) (next : Next) (k : ℕ) (us : List ℤ) (other : Next) (m : Resolved.Model) (s : State) (ps qs : List Resolved.Part) : Type 0 where
-  pub scoped : Scoped scopes m
-  pub stands : Stands zs m s
-  pub first : Defined t root variables m ls ps next
-  pub second : Defined t root variables m us qs other
+pub record Both (d : Moving) (i : ℕ) (ls : List ℤ) (next : Next) (k : ℕ) (us : List ℤ) (other : Next) (m : Resolved.Model) (s : State) (ps qs : List Resolved.Part) : Type 0 where
+  pub scoped : Scoped d.tables.scopes.now m
+  pub stands : Stands d.state.now m s
+  pub first : Defined d.tables.nodes.now d.tables.root d.tables.variables m ls ps next
+  pub second : Defined d.tables.nodes.now d.tables.root d.tables.variables m us qs other
   pub order : i < k
   pub inside : k < length s.processes
   pub room : length s.processes + length (next_processes m ls ps) + length (next_processes m us qs) ≤ process_limit + 2
 
 -- two processes at different places
-pub record Meets (t scopes : List ℕ) (root variables : ℕ) (zs : List ℤ) (i : ℕ) (ls : List ℤ) (next : Next) (k : ℕ) (us : List ℤ) (other : Next) (m : Resolved.Model) (s : State) (ps qs : List Resolved.Part) : Type 0 where
-  pub scoped : Scoped scopes m
-  pub stands : Stands zs m s
-  pub first : Defined t root variables m ls ps next
-  pub second : Defined t root variables m us qs other
+pub record Meets (d : Moving) (i : ℕ) (ls : List ℤ) (next : Next) (k : ℕ) (us : List ℤ) (other : Next) (m : Resolved.Model) (s : State) (ps qs : List Resolved.Part) : Type 0 where
+  pub scoped : Scoped d.tables.scopes.now m
+  pub stands : Stands d.state.now m s
+  pub first : Defined d.tables.nodes.now d.tables.root d.tables.variables m ls ps next
+  pub second : Defined d.tables.nodes.now d.tables.root d.tables.variables m us qs other
   pub apart : i ≡ k → ⊥
   pub first-inside : i < length s.processes
   pub second-inside : k < length s.processes
@@ -232,8 +233,8 @@ pub record Meets (t scopes : List ℕ) (root variables : ℕ) (zs : List ℤ) (i
 -- ---- entries
 
 -- an entry of one process: its branch, what it offers, and a continuation that fits with the values of pair q
-pub record AloneEntry (t roots scopes : List ℕ) (root variables : ℕ) (zs : List ℤ) (i j q : ℕ) (m : Resolved.Model) (s : State) (p : Process) (b : Resolved.Branch) (g : offers.Guard) : Type 0 where
-  pub lent : Lent t roots scopes root variables zs m s
+pub record AloneEntry (d : Moving) (i j q : ℕ) (m : Resolved.Model) (s : State) (p : Process) (b : Resolved.Branch) (g : offers.Guard) : Type 0 where
+  pub lent : Lent d.tables.nodes.now d.tables.roots.now d.tables.scopes.now d.tables.root d.tables.variables d.state.now m s
   pub at : BranchAt m s.processes i j p b
   pub evaluates : eval_branch p.locals b ≡ some g
   pub fit : Fit m (locals_of p (values_at s.pairs q) g) b.next
@@ -253,10 +254,10 @@ unfoldable pub received : Side → Side → List ℤ
 received x y = locals_of y.process (on_action [] sent_by x.guard) y.guard
 
 -- an entry of a handshake: sender and receiver at different places, with continuations that fit
-pub record HandEntry (t roots scopes : List ℕ) (root variables : ℕ) (zs : List ℤ) (i j k n : ℕ) (m : Resolved.Model) (s : State) (x y : Side) : Type 0 where
-  pub sender : Acts t roots scopes zs i j m s x.process x.branch x.guard
-  pub receiver : Acts t roots scopes zs k n m s y.process y.branch y.guard
-  pub defines : Defines t root variables m
+pub record HandEntry (d : Moving) (i j k n : ℕ) (m : Resolved.Model) (s : State) (x y : Side) : Type 0 where
+  pub sender : Acts d.tables.nodes.now d.tables.roots.now d.tables.scopes.now d.state.now i j m s x.process x.branch x.guard
+  pub receiver : Acts d.tables.nodes.now d.tables.roots.now d.tables.scopes.now d.state.now k n m s y.process y.branch y.guard
+  pub defines : Defines d.tables.nodes.now d.tables.root d.tables.variables m
   pub apart : i ≡ k → ⊥
   pub sender-fit : Fit m (sent x) x.branch.next
   pub receiver-fit : Fit m (received x y) y.branch.next

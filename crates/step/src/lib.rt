@@ -261,9 +261,9 @@ struct Moving<'a> {
 
 // The process at place i becomes what it enters.
 fn replace_process(moving: &mut Moving, x: Successor)
-    requires { (m : Resolved.Model) × (s : State) × (ps : List Resolved.Part) × Enter.Replaces moving.old.tables.nodes.now moving.old.tables.scopes.now moving.old.tables.root moving.old.tables.variables moving.old.state.now x.place x.locals.now x.next m s ps }
+    requires { (m : Resolved.Model) × (s : State) × (ps : List Resolved.Part) × Enter.Replaces moving.old x.place x.locals.now x.next m s ps }
     ensures same { (moving.new.state.ghost_name ≡ moving.old.state.ghost_name) × (moving.new.tables ≡ moving.old.tables) }
-    ensures moves { (m : Resolved.Model) (s : State) (ps : List Resolved.Part) → Enter.Replaces moving.old.tables.nodes.now moving.old.tables.scopes.now moving.old.tables.root moving.old.tables.variables moving.old.state.now x.entry.place x.entry.locals.now x.entry.next m s ps → moving.new.state.now ≡ state_numbers (Enter.entering m s x.entry.place x.entry.locals.now ps) }
+    ensures moves { (m : Resolved.Model) (s : State) (ps : List Resolved.Part) → Enter.Replaces moving.old x.entry.place x.entry.locals.now x.entry.next m s ps → moving.new.state.now ≡ state_numbers (Enter.entering m s x.entry.place x.entry.locals.now ps) }
 {
     match x.next {
         Some(k) => {
@@ -324,9 +324,9 @@ fn change_pairs(state: &mut [i64], offer: Option<Offer>)
 
 // 17 to 19 of a process that acts by itself, then its move.
 fn move_alone(moving: &mut Moving, x: Successor, offer: Option<Offer>) -> Result<(), Refusal>
-    requires { (m : Resolved.Model) × (s : State) × (ps : List Resolved.Part) × (n : Change) × Enter.Alone moving.old.tables.nodes.now moving.old.tables.scopes.now moving.old.tables.root moving.old.tables.variables moving.old.state.now x.place x.locals.now x.next offer m s ps n }
+    requires { (m : Resolved.Model) × (s : State) × (ps : List Resolved.Part) × (n : Change) × Enter.Alone moving.old x.place x.locals.now x.next offer m s ps n }
     ensures same { moving.new.state.ghost_name ≡ moving.old.state.ghost_name }
-    ensures answers { (m : Resolved.Model) (s : State) (ps : List Resolved.Part) (n : Change) → Enter.Alone moving.old.tables.nodes.now moving.old.tables.scopes.now moving.old.tables.root moving.old.tables.variables moving.old.state.now x.entry.place x.entry.locals.now x.entry.next offer m s ps n → Enter.Answers (arguments_given x.entry.locals.now ps) s (Enter.changed (Enter.entering m s x.entry.place x.entry.locals.now ps) n) result moving.new.state.now }
+    ensures answers { (m : Resolved.Model) (s : State) (ps : List Resolved.Part) (n : Change) → Enter.Alone moving.old x.entry.place x.entry.locals.now x.entry.next offer m s ps n → Enter.Answers (arguments_given x.entry.locals.now ps) s (Enter.changed (Enter.entering m s x.entry.place x.entry.locals.now ps) n) result moving.new.state.now }
 {
     if !arguments_given(moving.tables.nodes, x.locals, x.next) {
         return Err(Refusal::Arguments);
@@ -347,9 +347,9 @@ fn move_alone(moving: &mut Moving, x: Successor, offer: Option<Offer>) -> Result
 
 // Two processes become what they enter, the one at x before the one at y. Where the first becomes nothing it goes first, so that no place is wanted for a moment.
 fn replace_both(moving: &mut Moving, x: Successor, y: Successor)
-    requires { (m : Resolved.Model) × (s : State) × (ps : List Resolved.Part) × (qs : List Resolved.Part) × Enter.Both moving.old.tables.nodes.now moving.old.tables.scopes.now moving.old.tables.root moving.old.tables.variables moving.old.state.now x.place x.locals.now x.next y.place y.locals.now y.next m s ps qs }
+    requires { (m : Resolved.Model) × (s : State) × (ps : List Resolved.Part) × (qs : List Resolved.Part) × Enter.Both moving.old x.place x.locals.now x.next y.place y.locals.now y.next m s ps qs }
     ensures same { moving.new.state.ghost_name ≡ moving.old.state.ghost_name }
-    ensures moves { (m : Resolved.Model) (s : State) (ps qs : List Resolved.Part) → Enter.Both moving.old.tables.nodes.now moving.old.tables.scopes.now moving.old.tables.root moving.old.tables.variables moving.old.state.now x.entry.place x.entry.locals.now x.entry.next y.entry.place y.entry.locals.now y.entry.next m s ps qs → moving.new.state.now ≡ state_numbers (Enter.both_entering m s x.entry.place x.entry.locals.now ps y.entry.place y.entry.locals.now qs) }
+    ensures moves { (m : Resolved.Model) (s : State) (ps qs : List Resolved.Part) → Enter.Both moving.old x.entry.place x.entry.locals.now x.entry.next y.entry.place y.entry.locals.now y.entry.next m s ps qs → moving.new.state.now ≡ state_numbers (Enter.both_entering m s x.entry.place x.entry.locals.now ps y.entry.place y.entry.locals.now qs) }
 {
     if count_next(moving.tables, x.next) == 0 {
         replace_process(moving, x);
@@ -366,9 +366,9 @@ fn replace_both(moving: &mut Moving, x: Successor, y: Successor)
 
 // 17 and 18 of a handshake, then its move.
 fn move_both(moving: &mut Moving, x: Successor, y: Successor) -> Result<(), Refusal>
-    requires { (m : Resolved.Model) × (s : State) × (ps : List Resolved.Part) × (qs : List Resolved.Part) × Enter.Meets moving.old.tables.nodes.now moving.old.tables.scopes.now moving.old.tables.root moving.old.tables.variables moving.old.state.now x.place x.locals.now x.next y.place y.locals.now y.next m s ps qs }
+    requires { (m : Resolved.Model) × (s : State) × (ps : List Resolved.Part) × (qs : List Resolved.Part) × Enter.Meets moving.old x.place x.locals.now x.next y.place y.locals.now y.next m s ps qs }
     ensures same { moving.new.state.ghost_name ≡ moving.old.state.ghost_name }
-    ensures answers { (m : Resolved.Model) (s : State) (ps qs : List Resolved.Part) → Enter.Meets moving.old.tables.nodes.now moving.old.tables.scopes.now moving.old.tables.root moving.old.tables.variables moving.old.state.now x.entry.place x.entry.locals.now x.entry.next y.entry.place y.entry.locals.now y.entry.next m s ps qs → Enter.Answers (arguments_given x.entry.locals.now ps && arguments_given y.entry.locals.now qs) s (Enter.both_entering m s x.entry.place x.entry.locals.now ps y.entry.place y.entry.locals.now qs) result moving.new.state.now }
+    ensures answers { (m : Resolved.Model) (s : State) (ps qs : List Resolved.Part) → Enter.Meets moving.old x.entry.place x.entry.locals.now x.entry.next y.entry.place y.entry.locals.now y.entry.next m s ps qs → Enter.Answers (arguments_given x.entry.locals.now ps && arguments_given y.entry.locals.now qs) s (Enter.both_entering m s x.entry.place x.entry.locals.now ps y.entry.place y.entry.locals.now qs) result moving.new.state.now }
 {
     if !arguments_given(moving.tables.nodes, x.locals, x.next) {
         return Err(Refusal::Arguments);
@@ -393,9 +393,9 @@ fn move_both(moving: &mut Moving, x: Successor, y: Successor) -> Result<(), Refu
 
 // An entry of one process: names take the values of the pair.
 fn take_alone(moving: &mut Moving, entry: Entry) -> Result<(), Refusal>
-    requires { (m : Resolved.Model) × (s : State) × (p : Process) × (b : Resolved.Branch) × (g : Guard) × Enter.AloneEntry moving.old.tables.nodes.now moving.old.tables.roots.now moving.old.tables.scopes.now moving.old.tables.root moving.old.tables.variables moving.old.state.now entry.place entry.branch entry.pair m s p b g }
+    requires { (m : Resolved.Model) × (s : State) × (p : Process) × (b : Resolved.Branch) × (g : Guard) × Enter.AloneEntry moving.old entry.place entry.branch entry.pair m s p b g }
     ensures same { moving.new.state.ghost_name ≡ moving.old.state.ghost_name }
-    ensures answers { (m : Resolved.Model) (s : State) (p : Process) (b : Resolved.Branch) (g : Guard) → Enter.AloneEntry moving.old.tables.nodes.now moving.old.tables.roots.now moving.old.tables.scopes.now moving.old.tables.root moving.old.tables.variables moving.old.state.now entry.place entry.branch entry.pair m s p b g → Enter.Answers (arguments_given (Enter.locals_of p (values_at s.pairs entry.pair) g) b.next) s (Enter.changed (Enter.entering m s entry.place (Enter.locals_of p (values_at s.pairs entry.pair) g) b.next) (on_action unchanged change_of g)) result moving.new.state.now }
+    ensures answers { (m : Resolved.Model) (s : State) (p : Process) (b : Resolved.Branch) (g : Guard) → Enter.AloneEntry moving.old entry.place entry.branch entry.pair m s p b g → Enter.Answers (arguments_given (Enter.locals_of p (values_at s.pairs entry.pair) g) b.next) s (Enter.changed (Enter.entering m s entry.place (Enter.locals_of p (values_at s.pairs entry.pair) g) b.next) (on_action unchanged change_of g)) result moving.new.state.now }
 {
     let state = &mut *moving.state;
     let values = pair_values(&state[..], entry.pair);
@@ -410,9 +410,9 @@ fn take_alone(moving: &mut Moving, entry: Entry) -> Result<(), Refusal>
 
 // An entry of two processes: the receiver's names take the values sent.
 fn take_handshake(moving: &mut Moving, entry: Entry) -> Result<(), Refusal>
-    requires { (m : Resolved.Model) × (s : State) × (x : Enter.Side) × (y : Enter.Side) × Enter.HandEntry moving.old.tables.nodes.now moving.old.tables.roots.now moving.old.tables.scopes.now moving.old.tables.root moving.old.tables.variables moving.old.state.now entry.place entry.branch entry.partner entry.pbranch m s x y }
+    requires { (m : Resolved.Model) × (s : State) × (x : Enter.Side) × (y : Enter.Side) × Enter.HandEntry moving.old entry.place entry.branch entry.partner entry.pbranch m s x y }
     ensures same { moving.new.state.ghost_name ≡ moving.old.state.ghost_name }
-    ensures answers { (m : Resolved.Model) (s : State) (x y : Enter.Side) → Enter.HandEntry moving.old.tables.nodes.now moving.old.tables.roots.now moving.old.tables.scopes.now moving.old.tables.root moving.old.tables.variables moving.old.state.now entry.place entry.branch entry.partner entry.pbranch m s x y → Enter.Answers (arguments_given (Enter.sent x) x.branch.next && arguments_given (Enter.received x y) y.branch.next) s (Enter.both_entering m s entry.place (Enter.sent x) x.branch.next entry.partner (Enter.received x y) y.branch.next) result moving.new.state.now }
+    ensures answers { (m : Resolved.Model) (s : State) (x y : Enter.Side) → Enter.HandEntry moving.old entry.place entry.branch entry.partner entry.pbranch m s x y → Enter.Answers (arguments_given (Enter.sent x) x.branch.next && arguments_given (Enter.received x y) y.branch.next) s (Enter.both_entering m s entry.place (Enter.sent x) x.branch.next entry.partner (Enter.received x y) y.branch.next) result moving.new.state.now }
 {
     let state = &mut *moving.state;
     let sender = enter(moving.tables, &state[..], entry.place, entry.branch, None);

@@ -25,13 +25,13 @@ replace_process-requires-then-count_next-eq0 c =
     let qs = c.requires.3 in
     let h = c.requires.4 in
     let z = cut-zero _ (sym (c.count_next.ensures.0 m c.args.x.locals.now ps h.first) ∙ c.if-count_next-eq0.true) in
-    rw c.replace_process.ensures.same.1 (m, _, qs, second-next h z _ (c.replace_process.ensures.moves m s ps (first_goes h z)))
+    (m, _, qs, second-next h z _ c.replace_process.ensures.same.1 (c.replace_process.ensures.moves m s ps (first_goes h z)))
 
 pub returns-then-count_next-eq0-clause-moves : goal.returns-then-count_next-eq0-clause-moves
 returns-then-count_next-eq0-clause-moves c =
     λ m s ps qs h.
     let z = cut-zero _ (sym (c.count_next.ensures.0 m c.args.x.locals.now ps h.first) ∙ c.if-count_next-eq0.true) in
-    (rw c.replace_process.ensures.same.1 at c.replace_process-then-count_next-eq0.ensures.moves) m _ qs (second-next h z _ (c.replace_process.ensures.moves m s ps (first_goes h z))) ∙ first-both h z
+    c.replace_process-then-count_next-eq0.ensures.moves m _ qs (second-next h z _ c.replace_process.ensures.same.1 (c.replace_process.ensures.moves m s ps (first_goes h z))) ∙ first-both h z
 
 pub replace_process-requires-2 : goal.replace_process-requires-2
 replace_process-requires-2 c =
@@ -51,10 +51,10 @@ replace_process-requires-3 c =
     let qs = c.requires.3 in
     let h = c.requires.4 in
     let z = cut-some _ (λ e. c.if-count_next-eq0.false (c.count_next.ensures.0 m c.args.x.locals.now ps h.first ∙ e)) in
-    rw c.replace_process-2.ensures.same.1 (m, _, ps, first_next h z _ (c.replace_process-2.ensures.moves m s qs (second-goes h z)))
+    (m, _, ps, first_next h z _ c.replace_process-2.ensures.same.1 (c.replace_process-2.ensures.moves m s qs (second-goes h z)))
 
 pub returns-clause-moves : goal.returns-clause-moves
 returns-clause-moves c =
     λ m s ps qs h.
     let z = cut-some _ (λ e. c.if-count_next-eq0.false (c.count_next.ensures.0 m c.args.x.locals.now ps h.first ∙ e)) in
-    (rw c.replace_process-2.ensures.same.1 at c.replace_process-3.ensures.moves) m _ ps (first_next h z _ (c.replace_process-2.ensures.moves m s qs (second-goes h z))) ∙ second-both h z
+    c.replace_process-3.ensures.moves m _ ps (first_next h z _ c.replace_process-2.ensures.same.1 (c.replace_process-2.ensures.moves m s qs (second-goes h z))) ∙ second-both h z

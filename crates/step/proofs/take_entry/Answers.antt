@@ -25,14 +25,14 @@ take_handshake-requires c =
     let w = c.requires.2 in
     let l = c.requires.3 in
     let h = c.requires.4 in
-    let e = hand-listed l c.args.entry.place c.args.entry.branch c.args.entry.partner c.args.entry.pbranch c.args.entry.pair w (subst (λ (k : ℕ). In (entry (key k c.args.entry.place c.args.entry.branch c.args.entry.partner c.args.entry.pbranch c.args.entry.pair) w) (entries (branches m) s)) c.if-entry-eq-HANDSHAKE.true h) in
+    let e = hand-listed _ l c.args.entry.place c.args.entry.branch c.args.entry.partner c.args.entry.pbranch c.args.entry.pair w (subst (λ (k : ℕ). In (entry (key k c.args.entry.place c.args.entry.branch c.args.entry.partner c.args.entry.pbranch c.args.entry.pair) w) (entries (branches m) s)) c.if-entry-eq-HANDSHAKE.true h) in
     (m, s, e.sender, e.receiver, e.entry)
 
 pub returns-then-entry-eq-HANDSHAKE : goal.returns-then-entry-eq-HANDSHAKE
 returns-then-entry-eq-HANDSHAKE c =
     λ m s w l h.
-    let e = hand-listed l c.args.entry.place c.args.entry.branch c.args.entry.partner c.args.entry.pbranch c.args.entry.pair w (subst (λ (k : ℕ). In (entry (key k c.args.entry.place c.args.entry.branch c.args.entry.partner c.args.entry.pbranch c.args.entry.pair) w) (entries (branches m) s)) c.if-entry-eq-HANDSHAKE.true h) in
-    lent (search rules) (hand-answered l c.args.entry.kind c.args.entry.place c.args.entry.branch c.args.entry.partner c.args.entry.pbranch c.args.entry.pair c.if-entry-eq-HANDSHAKE.true e _ _ (c.take_handshake.ensures.answers m s e.sender e.receiver e.entry))
+    let e = hand-listed _ l c.args.entry.place c.args.entry.branch c.args.entry.partner c.args.entry.pbranch c.args.entry.pair w (subst (λ (k : ℕ). In (entry (key k c.args.entry.place c.args.entry.branch c.args.entry.partner c.args.entry.pbranch c.args.entry.pair) w) (entries (branches m) s)) c.if-entry-eq-HANDSHAKE.true h) in
+    lent (search rules) (hand-answered _ l c.args.entry.kind c.args.entry.place c.args.entry.branch c.args.entry.partner c.args.entry.pbranch c.args.entry.pair c.if-entry-eq-HANDSHAKE.true e _ _ (c.take_handshake.ensures.answers m s e.sender e.receiver e.entry))
 
 pub take_alone-requires : goal.take_alone-requires
 take_alone-requires c =
@@ -41,11 +41,11 @@ take_alone-requires c =
     let w = c.requires.2 in
     let l = c.requires.3 in
     let h = c.requires.4 in
-    let e = alone-listed l c.args.entry.kind c.args.entry.place c.args.entry.branch c.args.entry.partner c.args.entry.pbranch c.args.entry.pair w c.if-entry-eq-HANDSHAKE.false h in
+    let e = alone-listed _ l c.args.entry.kind c.args.entry.place c.args.entry.branch c.args.entry.partner c.args.entry.pbranch c.args.entry.pair w c.if-entry-eq-HANDSHAKE.false h in
     (m, s, e.process, e.branch, e.guard, e.entry)
 
 pub returns : goal.returns
 returns c =
     λ m s w l h.
-    let e = alone-listed l c.args.entry.kind c.args.entry.place c.args.entry.branch c.args.entry.partner c.args.entry.pbranch c.args.entry.pair w c.if-entry-eq-HANDSHAKE.false h in
-    lent (search rules) (alone-answered l c.args.entry.kind c.args.entry.place c.args.entry.branch c.args.entry.partner c.args.entry.pbranch c.args.entry.pair c.if-entry-eq-HANDSHAKE.false e _ _ (c.take_alone.ensures.answers m s e.process e.branch e.guard e.entry))
+    let e = alone-listed _ l c.args.entry.kind c.args.entry.place c.args.entry.branch c.args.entry.partner c.args.entry.pbranch c.args.entry.pair w c.if-entry-eq-HANDSHAKE.false h in
+    lent (search rules) (alone-answered _ l c.args.entry.kind c.args.entry.place c.args.entry.branch c.args.entry.partner c.args.entry.pbranch c.args.entry.pair c.if-entry-eq-HANDSHAKE.false e _ _ (c.take_alone.ensures.answers m s e.process e.branch e.guard e.entry))

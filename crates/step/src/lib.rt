@@ -250,8 +250,8 @@ fn count_next(tables: Tables, next: Option<usize>) -> usize
     }
 }
 
-// What a step works with: the tables, the state that moves, and room for the numbers of new processes. Each function that takes it promises that `state` stays the same slice: by that, the lender
-// knows what it holds. It is read by a variable of its own: of a field that is lent as it is, the length alone would be known afterwards.
+// What a step works with: the tables, the state that moves, and room for the numbers of new processes. Each function that takes it promises that `state` stays the same reference: by that its lender
+// knows what the state has become. To be read, the state is first borrowed by a variable: of `moving.state`, lent as it is, the length alone would be known afterwards.
 #[derive(Drop)]
 struct Moving<'a> {
     tables: Tables<'a>,

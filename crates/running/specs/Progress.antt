@@ -14,6 +14,7 @@ use Rattle.step.specs.Entries.{Counted}
 use Rattle.running.specs.declared.End.{End}
 use Rattle.running.specs.declared.End.TheVariants.{Spent, Unlisted, Refused}
 use Rattle.running.specs.declared.Given.{Given}
+use Rattle.running.specs.declared.Making.{Making}
 use Rattle.running.specs.Taking.{refusal_number}
 use Rattle.running.specs.declared.Progress.{Progress}
 
@@ -70,3 +71,18 @@ pub record Lists (g : Given) (z : List ℕ) (zs : List ℤ) (es : List ℕ) (p :
 pub record Goes (g : Given) (z : List ℕ) (x : Next) (p : Progress) (zs : List ℤ) (es : List ℕ) (m : Resolved.Model) : Type 0 where
   pub stands : Stands g z zs es p m (run_of x)
   pub over : is_some p.end ≡ is_over x
+
+-- ---- the same of a run as it is made
+
+-- what it is lent stays where it is
+abbrev pub Stays : Making → Making → Type 0
+Stays a b = (b.state.ghost_name ≡ a.state.ghost_name) × (b.events.ghost_name ≡ a.events.ghost_name)
+
+abbrev pub StandsIn : Given → List ℕ → Making → Progress → Resolved.Model → Run → Type 0
+StandsIn g z a p m r = Stands g z a.state.now a.events.now p m r
+
+abbrev pub ListsIn : Given → List ℕ → Making → Progress → Resolved.Model → Run → (count sum : ℕ) → List Entry → Type 0
+ListsIn g z a p m r count sum es = Lists g z a.state.now a.events.now p m r a.listing count sum es
+
+abbrev pub GoesIn : Given → List ℕ → Next → Progress → Making → Resolved.Model → Type 0
+GoesIn g z x p a m = Goes g z x p a.state.now a.events.now m

@@ -14,7 +14,7 @@ ghost use Rattle.step.specs.Enter.{verdict, Lent};
 ghost use Rattle.step.specs.Entries.{Counted, Row};
 ghost use Rattle.machine.specs.Machine.{Run, begun, follows, run_step, running, runs_with, event_width};
 ghost use Rattle.running.specs.Taking.{refusal_number, of_step, StepsTo};
-ghost use Rattle.running.specs.Progress.{written, end_number, begun_with, ended, longer_by, Holds, Stands, Lists, Goes};
+ghost use Rattle.running.specs.Progress.{written, end_number, begun_with, ended, longer_by, Holds, Stands, Stays, StandsIn, ListsIn, GoesIn};
 
 use clock::{Clock, Late};
 use listing::{Limits, Listed};
@@ -165,16 +165,8 @@ pub struct Stepping<'a> {
     pub clock: Clock,
 }
 
-// What the steps of a run are made in: the table of offers, the processes that an entry leads to, and the listing.
-#[derive(Drop)]
-struct Scratch {
-    space: Space<{ Table::ROWS }>,
-    fresh: [i64; Room::FRESH],
-    listing: [u64; Room::LISTING],
-}
-
-// What taking entry c of the listing would come to; the state stays as it was. Here and in take_waiting and take_timed the state and `fresh`, which are written,
-// are lent apart from what is read: a struct of `&mut` slices would lose what is written.
+// What taking entry c of the listing would come to; the state stays as it was. State and `fresh` are lent one by one here and in take_waiting, as take_timed is lent them:
+// as a struct of both, each of the two would promise besides that they stay the same, a parameter less for a clause more.
 fn take_kept(
     read: Stepping,
     state: &mut [i64],
@@ -240,104 +232,98 @@ fn put_event(events: &mut [u64], step: usize, ticks: u64, listing: &[u64], c: us
     events[at + 1..at + Room::EVENT].copy_from_slice(&listing[from..from + Limits::ENTRY]);
 }
 
-// A step of a run with its choosing draw, which took so many words.
-fn step_drawn(
-    given: Given,
-    state: &mut [i64],
-    events: &mut [u64],
-    scratch: &mut Scratch,
-    listed: Listed,
-    draw: u64,
-    used: usize,
-    p: Progress,
-) -> Progress
-    requires { ((z : List ℕ) × (m : Resolved.Model) × (r : Run) × (es : List rules.Entry) × Lists given z state.old events.old p m r scratch.old.listing listed.count listed.total es × (p.words + used ≤ length given.words.now)) × (0 < listed.total) × (p.steps * event_width + event_width ≤ length events.old) }
-    ensures { (z : List ℕ) (m : Resolved.Model) (r : Run) (es : List rules.Entry) → Lists given.entry z state.old events.old p m r scratch.old.listing listed.count listed.total es → p.words + used ≤ length given.entry.words.now → Goes given.entry z (follows used (steps_in r.timed.clock (drop r.waiting given.entry.waiting.now) r.timed.state (drawn m r.timed.state es draw)) r) result state.new events.new m }
-{
-    let waiting = given.waiting;
-    let gone = p.waiting;
-    let read = Stepping {
-        tables: given.tables,
-        listing: &scratch.listing,
-        waiting: &waiting[gone..],
-        clock: p.clock,
-    };
-    match take_timed(read, state, &mut scratch.fresh, listed, draw) {
-        Err(refusal) => p.ended(End::Refused(refusal), listed.count, listed.total),
-        Ok((chosen, next)) => {
-            put_event(events, p.steps, next.ticks, &scratch.listing, chosen);
-            p.longer(used, listed.count, listed.total, next)
+// A run as it is made: the state and the events, which it is lent to write, and what its steps are made in: the table of offers, the processes that an entry leads
+// to, and the listing. What it is given to read stays apart, so that it needs no promise to stay.
+#[derive(Drop)]
+struct Making<'a> {
+    state: &'a mut [i64],
+    events: &'a mut [u64],
+    space: Space<{ Table::ROWS }>,
+    fresh: [i64; Room::FRESH],
+    listing: [u64; Room::LISTING],
+}
+
+impl<'a> Making<'a> {
+    // A step with its choosing draw, which took so many words.
+    fn step_drawn(
+        &mut self,
+        given: Given,
+        listed: Listed,
+        draw: u64,
+        used: usize,
+        p: Progress,
+    ) -> Progress
+        requires { ((z : List ℕ) × (m : Resolved.Model) × (r : Run) × (es : List rules.Entry) × ListsIn given z self.old p m r listed.count listed.total es × (p.words + used ≤ length given.words.now)) × (0 < listed.total) × (p.steps * event_width + event_width ≤ length self.old.events.now) }
+        ensures same { Stays self.old self.new }
+        ensures goes { (z : List ℕ) (m : Resolved.Model) (r : Run) (es : List rules.Entry) → ListsIn given.entry z self.old p m r listed.count listed.total es → p.words + used ≤ length given.entry.words.now → GoesIn given.entry z (follows used (steps_in r.timed.clock (drop r.waiting given.entry.waiting.now) r.timed.state (drawn m r.timed.state es draw)) r) result self.new m }
+    {
+        let state = &mut *self.state;
+        let events = &mut *self.events;
+        let waiting = given.waiting;
+        let gone = p.waiting;
+        let read = Stepping {
+            tables: given.tables,
+            listing: &self.listing,
+            waiting: &waiting[gone..],
+            clock: p.clock,
+        };
+        match take_timed(read, state, &mut self.fresh, listed, draw) {
+            Err(refusal) => p.ended(End::Refused(refusal), listed.count, listed.total),
+            Ok((chosen, next)) => {
+                put_event(events, p.steps, next.ticks, &self.listing, chosen);
+                p.longer(used, listed.count, listed.total, next)
+            }
         }
     }
-}
 
-// A step of a run once its state is listed: 15, the draw from words, then the step.
-fn step_counted(
-    given: Given,
-    state: &mut [i64],
-    events: &mut [u64],
-    scratch: &mut Scratch,
-    listed: Listed,
-    p: Progress,
-) -> Progress
-    requires { ((z : List ℕ) × (m : Resolved.Model) × (r : Run) × (es : List rules.Entry) × Lists given z state.old events.old p m r scratch.old.listing listed.count listed.total es) × (p.steps * event_width + event_width ≤ length events.old) }
-    ensures { (z : List ℕ) (m : Resolved.Model) (r : Run) (es : List rules.Entry) → Lists given.entry z state.old events.old p m r scratch.old.listing listed.count listed.total es → Goes given.entry z (run_step given.entry.words.now given.entry.waiting.now m r) result state.new events.new m }
-{
-    if listed.total == 0 {
-        return p.ended(End::Refused(Refusal::NoWeight), listed.count, listed.total);
-    }
-    let words = given.words;
-    let from = p.words;
-    let drawn = words::draw_from(&words[from..], listed.total);
-    match drawn {
-        None => p.ended(End::Spent, listed.count, listed.total),
-        Some((draw, used)) => { step_drawn(given, state, events, scratch, listed, draw, used, p) }
-    }
-}
-
-// One step of a run: the listing, then the rest of the step.
-fn run_step(
-    given: Given,
-    state: &mut [i64],
-    events: &mut [u64],
-    scratch: &mut Scratch,
-    p: Progress,
-) -> Progress
-    requires { ((z : List ℕ) × (m : Resolved.Model) × (r : Run) × Stands given z state.old events.old p m r) × (p.steps * event_width + event_width ≤ length events.old) }
-    ensures { (z : List ℕ) (m : Resolved.Model) (r : Run) → Stands given.entry z state.old events.old p m r → Goes given.entry z (run_step given.entry.words.now given.entry.waiting.now m r) result state.new events.new m }
-{
-    let listed = listing::list_over(
-        given.tables,
-        state,
-        &mut scratch.space,
-        &mut scratch.listing,
-    );
-    match listed {
-        Err(refusal) => p.ended(End::Unlisted(refusal), 0, 0),
-        Ok(listed) => step_counted(given, state, events, scratch, listed, p),
-    }
-}
-
-// Up to so many steps, for all of whose events there is room.
-fn run_within(
-    given: Given,
-    state: &mut [i64],
-    events: &mut [u64],
-    scratch: &mut Scratch,
-    clock: Clock,
-    steps: usize,
-) -> Progress
-    requires { ((m : Resolved.Model) × (s : State) × Holds given state.old m s) × (InRange clock) × (steps * event_width ≤ length events.old) }
-    ensures { (m : Resolved.Model) (s : State) → Holds given.entry state.old m s → Stands given.entry events.old state.new events.new result m (running steps given.entry.words.now given.entry.waiting.now m (begun (timed s clock))) }
-{
-    let mut p = Progress::begun(clock);
-    for _ in 0..steps {
-        p = run_step(given, state, events, scratch, p);
-        if p.end.is_some() {
-            return p;
+    // A step once the state is listed: 15, the draw from words, then the step.
+    fn step_counted(&mut self, given: Given, listed: Listed, p: Progress) -> Progress
+        requires { ((z : List ℕ) × (m : Resolved.Model) × (r : Run) × (es : List rules.Entry) × ListsIn given z self.old p m r listed.count listed.total es) × (p.steps * event_width + event_width ≤ length self.old.events.now) }
+        ensures same { Stays self.old self.new }
+        ensures goes { (z : List ℕ) (m : Resolved.Model) (r : Run) (es : List rules.Entry) → ListsIn given.entry z self.old p m r listed.count listed.total es → GoesIn given.entry z (run_step given.entry.words.now given.entry.waiting.now m r) result self.new m }
+    {
+        if listed.total == 0 {
+            return p.ended(End::Refused(Refusal::NoWeight), listed.count, listed.total);
+        }
+        let words = given.words;
+        let from = p.words;
+        let drawn = words::draw_from(&words[from..], listed.total);
+        match drawn {
+            None => p.ended(End::Spent, listed.count, listed.total),
+            Some((draw, used)) => self.step_drawn(given, listed, draw, used, p),
         }
     }
-    p
+
+    // One step: the listing, then the rest of the step.
+    fn step(&mut self, given: Given, p: Progress) -> Progress
+        requires { ((z : List ℕ) × (m : Resolved.Model) × (r : Run) × StandsIn given z self.old p m r) × (p.steps * event_width + event_width ≤ length self.old.events.now) }
+        ensures same { Stays self.old self.new }
+        ensures goes { (z : List ℕ) (m : Resolved.Model) (r : Run) → StandsIn given.entry z self.old p m r → GoesIn given.entry z (run_step given.entry.words.now given.entry.waiting.now m r) result self.new m }
+    {
+        // Not `&*`: beside a shared loan of one field the check covers none to write of another.
+        let state = &mut *self.state;
+        let listed = listing::list_over(given.tables, state, &mut self.space, &mut self.listing);
+        match listed {
+            Err(refusal) => p.ended(End::Unlisted(refusal), 0, 0),
+            Ok(listed) => self.step_counted(given, listed, p),
+        }
+    }
+
+    // Up to so many steps, for all of whose events there is room.
+    fn steps(&mut self, given: Given, clock: Clock, steps: usize) -> Progress
+        requires { ((m : Resolved.Model) × (s : State) × Holds given self.old.state.now m s) × (InRange clock) × (steps * event_width ≤ length self.old.events.now) }
+        ensures same { Stays self.old self.new }
+        ensures stands { (m : Resolved.Model) (s : State) → Holds given.entry self.old.state.now m s → Stands given.entry self.old.events.now self.new.state.now self.new.events.now result m (running steps given.entry.words.now given.entry.waiting.now m (begun (timed s clock))) }
+    {
+        let mut p = Progress::begun(clock);
+        for _ in 0..steps {
+            p = self.step(given, p);
+            if p.end.is_some() {
+                return p;
+            }
+        }
+        p
+    }
 }
 
 // A run over the tables of a model: no more steps than the limit, and none for whose event there is no room. Its tables are made once.
@@ -351,11 +337,13 @@ pub fn run(
     requires { ((m : Resolved.Model) × (s : State) × Holds given state.old m s) × (InRange clock) }
     ensures { (m : Resolved.Model) (s : State) → Holds given.entry state.old m s → Stands given.entry events.old state.new events.new result m (runs_with limit (length events.old / event_width) given.entry.words.now given.entry.waiting.now m s clock) }
 {
-    let mut scratch = Scratch {
+    let steps = limit.min(events.len() / Room::EVENT);
+    let mut making = Making {
+        state,
+        events,
         space: Space::EMPTY,
         fresh: [0i64; Room::FRESH],
         listing: [0u64; Room::LISTING],
     };
-    let steps = limit.min(events.len() / Room::EVENT);
-    run_within(given, state, events, &mut scratch, clock, steps)
+    making.steps(given, clock, steps)
 }

@@ -2,10 +2,10 @@
 use native.Mathlib.Omega.{arith}
 use Rattle.running.proofs.Taking.{rest_of}
 use Rattle.running.proofs.Steps.{dead-ends, words-ends, drawn-so, used-fits}
-use Rattle.running.proofs.step_counted.Goals as goal
+use Rattle.running.proofs.Making.step_counted.Goals as goal
 
-pub returns-then-listed-eq0 : goal.returns-then-listed-eq0
-returns-then-listed-eq0 c =
+pub returns-then-listed-eq0-clause-goes : goal.returns-then-listed-eq0-clause-goes
+returns-then-listed-eq0-clause-goes c =
     λ z m r es h. dead-ends h c.if-listed-eq0.true _ c.ended.ensures
 
 pub slice_bounds-draw_from-count : goal.slice_bounds-draw_from-count
@@ -24,10 +24,10 @@ pub step_drawn-requires : goal.step_drawn-requires
 step_drawn-requires c =
     let h = c.requires.0.4 in ((c.requires.0.0, c.requires.0.1, c.requires.0.2, c.requires.0.3, h, used-fits h c.if-listed-eq0.false _ (rw rest_of at c.draw_from-drawn.ensures.value) _ _ c.in-Some.is (rw rest_of at c.draw_from-drawn.ensures.within)), omega (arith, c.if-listed-eq0.false), c.requires.1)
 
-pub returns-in-None : goal.returns-in-None
-returns-in-None c =
+pub returns-in-None-clause-goes : goal.returns-in-None-clause-goes
+returns-in-None-clause-goes c =
     λ z m r es h. words-ends h c.if-listed-eq0.false _ (rw rest_of at c.draw_from-drawn.ensures.value) c.in-None.is _ c.ended-in-None.ensures
 
-pub returns-in-Some : goal.returns-in-Some
-returns-in-Some c =
-    λ z m r es h. rw (drawn-so h c.if-listed-eq0.false _ (rw rest_of at c.draw_from-drawn.ensures.value) _ _ c.in-Some.is) (c.step_drawn.ensures z m r es h (used-fits h c.if-listed-eq0.false _ (rw rest_of at c.draw_from-drawn.ensures.value) _ _ c.in-Some.is (rw rest_of at c.draw_from-drawn.ensures.within)))
+pub returns-in-Some-clause-goes : goal.returns-in-Some-clause-goes
+returns-in-Some-clause-goes c =
+    λ z m r es h. rw (drawn-so h c.if-listed-eq0.false _ (rw rest_of at c.draw_from-drawn.ensures.value) _ _ c.in-Some.is) (c.step_drawn.ensures.goes z m r es h (used-fits h c.if-listed-eq0.false _ (rw rest_of at c.draw_from-drawn.ensures.value) _ _ c.in-Some.is (rw rest_of at c.draw_from-drawn.ensures.within)))

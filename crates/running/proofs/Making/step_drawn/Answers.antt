@@ -2,7 +2,7 @@
 use native.Mathlib.Omega.{arith}
 use borrow.Author.Rules.{rules}
 use Rattle.running.proofs.Steps.{left_over, step-ends, row_within, clock-later, step-goes}
-use Rattle.running.proofs.step_drawn.Goals as goal
+use Rattle.running.proofs.Making.step_drawn.Goals as goal
 
 pub slice_bounds-read-count : goal.slice_bounds-read-count
 slice_bounds-read-count c =
@@ -16,8 +16,8 @@ pub take_timed-requires : goal.take_timed-requires
 take_timed-requires c =
     let h = c.requires.0.4 in ((c.requires.0.1, c.requires.0.2.timed.state, c.requires.0.3, h.counted), rw h.stands.clock h.stands.in-range, c.requires.1)
 
-pub returns-in-Err : goal.returns-in-Err
-returns-in-Err c =
+pub returns-in-Err-clause-goes : goal.returns-in-Err-clause-goes
+returns-in-Err-clause-goes c =
     λ z m r es h f. step-ends h _ c.args.used _ _ (rw c.in-Err.is at (left_over h _ _ _ _ _ h.stands.clock h.stands.waiting (c.take_timed.ensures m r.timed.state es h.counted))) _ c.ended.ensures
 
 pub put_event-requires : goal.put_event-requires
@@ -30,6 +30,6 @@ longer-requires c =
     let k = clock-later h _ c.args.used _ _ _ (rw c.in-Ok.is at (left_over h _ _ _ _ _ h.stands.clock h.stands.waiting (c.take_timed.ensures c.requires.0.1 c.requires.0.2.timed.state c.requires.0.3 h.counted))) in
     (search rules, search rules, k.0, search rules)
 
-pub returns-in-Ok : goal.returns-in-Ok
-returns-in-Ok c =
+pub returns-in-Ok-clause-goes : goal.returns-in-Ok-clause-goes
+returns-in-Ok-clause-goes c =
     λ z m r es h f. step-goes h _ _ _ _ _ (rw c.in-Ok.is at (left_over h _ _ _ _ _ h.stands.clock h.stands.waiting (c.take_timed.ensures m r.timed.state es h.counted))) _ _ f c.requires.2 c.put_event.ensures c.longer.ensures

@@ -264,8 +264,8 @@ fn are_long(model: usize, state: usize, output: usize, right: usize) -> bool
 }
 
 // Question 1 of the model, the state and the saves. Past it they stay slices under clauses of their lengths, here and in held.rt, each lent by itself: `first_chunk_mut`,
-// which alone leaves known what is written through an array made of a slice, would be an unwrap with its proof in each call, to save one clause; a struct of `&mut` slices
-// would lose what is written.
+// which alone leaves known what is written through an array made of a slice, would be an unwrap with its proof in each call, to save one clause. What C
+// lends one by one goes on one by one: a struct of the references would be made, and promised to be the same, in each call.
 fn are_all_long(model: usize, state: usize, saves: usize) -> bool
     ensures { result ≡ are_all_long model state saves }
 {

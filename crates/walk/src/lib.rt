@@ -110,6 +110,8 @@ fn take_at(
 
 // ---- from run to run
 // Along a run of eight entries there are nine states, eight listings and the run that the caller is given, each a table of its own: rows of all three would have a ninth listing, whose 57 KB would be cleared and never used.
+// They are handed on one by one: as a struct of three references each contract would promise besides that they stay and how long they are, and a body would take each into a variable
+// before it takes a row: two parameters less for a clause and as many lines more.
 
 // The first run of `more` and one more entries to the wait that begins with entry e.
 #[cycle(seek_try_all_try_entry)]

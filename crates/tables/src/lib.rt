@@ -7,7 +7,7 @@ ghost use Rattle.tables.specs.Represents.{Sums};
 use tree::NodeKind;
 
 // The nodes; for each sum the root of its branches and its scope; where the model's root stands, and how many variables it has.
-// What they hold (Represents, Branches, Expr) stands in the contracts: it goes by recursion on a model that the tables don't name, which a ghost field may not. The predicates take the fields that they speak of: five of them all five, the others fewer.
+// What they hold (Represents, Branches, Expr) stands in the contracts: it goes by recursion on a model that the tables don't name, which a ghost field may not. The predicates take the fields that they speak of, some of them all five.
 // No names::Lists: names stands above this crate.
 #[derive(Clone, Copy)]
 pub struct Tables<'a> {

@@ -110,14 +110,14 @@ fn is_padded(s: &[i64], count: usize) -> bool
 pub fn locals_in(scope: u16) -> usize
     ensures { result ≡ locals_in scope }
 {
-    usize::from(scope) % model::Limits::SCOPE
+    scope as usize % model::Limits::SCOPE
 }
 
 // The definition whose text holds a sum, of what is known of it.
 pub fn definition_in(scope: u16) -> usize
     ensures { (result ≡ definition_in scope) × (result < 65536) }
 {
-    usize::from(scope) / model::Limits::SCOPE
+    scope as usize / model::Limits::SCOPE
 }
 
 // The comparison as the definition has it: a name for it and for the bound under which the cast keeps the number.

@@ -1,5 +1,5 @@
--- Small texts and what opening them gives, by computation: the bench sheet and a specimen of 01, both sides of a limit, and texts for questions 7
--- to 10. A text that fits comes with its derivation.
+-- Small texts and what opening them gives, by computation: the bench sheet and a specimen of 01, both sides of a limit, texts for questions 7
+-- to 10, channel names, groups in groups. A text that fits comes with its derivation.
 use mathlib.Core.Path.{◌≡◌, refl}
 use mathlib.Core.List.{List, [], ◌∷◌}
 use mathlib.Core.Bool.{false}
@@ -271,6 +271,44 @@ channels =
     opens-so channels_text
     (alone (send (then (send (then (send derived.stop))))) once)
     (opened (several channels_text (sends 0 (Resolved.enter 1 ∷ []) ∷ sends 1 (Resolved.enter 2 ∷ []) ∷ sends 0 [] ∷ []) 2 1)) refl refl refl
+
+-- ---- groups
+
+-- A[]={go,1}.(A[]||(({go,1})||B[]));B[]={go,1};A[];
+abbrev groups_text : List ℕ
+groups_text = 65 ∷ 91 ∷ 93 ∷ 61 ∷ 123 ∷ 103 ∷ 111 ∷ 44 ∷ 49 ∷ 125 ∷ 46 ∷ 40 ∷ 65 ∷ 91 ∷ 93 ∷ 124 ∷ 124 ∷ 40 ∷ 40 ∷ 123 ∷ 103 ∷ 111 ∷ 44 ∷ 49 ∷ 125 ∷ 41 ∷ 124 ∷ 124 ∷ 66 ∷ 91 ∷ 93 ∷ 41 ∷ 41 ∷ 59 ∷ 66 ∷ 91 ∷ 93 ∷ 61 ∷ 123 ∷ 103 ∷ 111 ∷ 44 ∷ 49 ∷ 125 ∷ 59 ∷ 65 ∷ 91 ∷ 93 ∷ 59 ∷ []
+
+-- (A[]||(({go,1})||B[]))
+abbrev nested : derived.Cont
+nested =
+    derived.group (derived.item_call derived.no_args)
+    (derived.also (derived.item_group (derived.item_group (derived.item_sum go derived.no_choices) derived.close) (derived.also (derived.item_call derived.no_args) derived.close)) derived.close)
+
+abbrev groups_tree : derived.Model
+groups_tree =
+    derived.definitions
+    (derived.next_definition derived.no_params (derived.body (derived.prefix derived.no_gate derived.wait a_rate (derived.dot nested)) derived.no_choices derived.no_sums)
+    (derived.last_definition derived.no_params (derived.body go derived.no_choices derived.no_sums) (derived.last_start once)))
+
+abbrev groups_model : Resolved.Model
+groups_model =
+    record {
+      sums =
+          sum_of 0
+          (record { gate = none; action = Resolved.wait 5; rate = Resolved.plain (Resolved.fixed (pos 10000)); next = Resolved.call 0 [] ∷ Resolved.enter 1 ∷ Resolved.call 1 [] ∷ [] })
+          ∷ sum_of 0 (waiting 18 (Resolved.fixed (pos 10000)))
+          ∷ record { locals = 0; definition = 1; branches = waiting 35 (Resolved.fixed (pos 10000)) ∷ [] }
+          ∷ [];
+      definitions = record { params = 0; sums = 0 ∷ [] } ∷ record { params = 0; sums = 2 ∷ [] } ∷ [];
+      channels = 0;
+      starts = record { definition = 0; count = 1; values = [] } ∷ [];
+      words = word_of groups_text;
+    }
+
+-- 01, Step: they are flattened left to right, here to A, {go,1} and B
+pub groups : opening groups_text ≡ opened groups_model
+unfolding judged_bytes kinds_in written judged_tree
+groups = opens-so groups_text groups_tree (opened groups_model) refl refl refl
 
 -- ---- the bench sheet
 

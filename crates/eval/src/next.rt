@@ -132,7 +132,7 @@ fn numbers_of(sum: usize, locals: &[i64], definition: usize) -> [i64; Row::WIDTH
 }
 
 // Writes the values of the arguments at k from place `at` on. `store::start::put_wholes` walks alike: one function would have two sorts of lists in its contract,
-// told apart by the kind.
+// told apart by the kind. Values and place stay two: a struct of them would serve this one function, and its one caller begins at 0.
 fn put_arguments(context: Context, k: usize, values: &mut [i64], at: usize)
     requires { Become.Room context.nodes.now (length context.locals.now) k (length values.old) at }
     ensures { (es : List Resolved.Expr) → Settled.Arguments context.entry.nodes.now es k → values.new ≡ sets values.old at (Become.arguments context.entry.locals.now es) }
@@ -168,7 +168,8 @@ impl Rows<'_> {
         self.next += 1;
     }
 
-    // Writes a process for each sum at k. `store::start::push_sums` walks alike, but adds to a state: a walk for both would take a closure that writes.
+    // Writes a process for each sum at k. `store::start::push_sums` walks alike, but adds to a state: a walk over a trait for both would want a law that says
+    // of rows and of a state what each adds, longer than the walk.
     fn put_sums(&mut self, tables: Tables, k: usize, locals: &[i64])
         requires { (Become.SumsFit tables.nodes.now (length tables.scopes.now) k (length self.old.fresh.now) self.old.next) × (length locals.now ≤ local_limit) }
         ensures same { self.new.fresh.ghost_name ≡ self.old.fresh.ghost_name }

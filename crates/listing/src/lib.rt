@@ -38,7 +38,7 @@ ghost use Rattle.std.specs.Simd.{first_chunks};
 use eval::Context;
 use eval::offer::{Offer, OfferSet};
 pub use machine::EntryKind;
-use offers::{Offers, Space, Table};
+use offers::{Offers, Row, Space, Table};
 use state::{Layout, Run};
 use tables::Tables;
 use tree::NodeKind;
@@ -576,26 +576,25 @@ fn list_rows(from: Source, filling: &mut Filling)
     }
 }
 
-// Lists what can happen next, questions 12 to 14, if the lent table has a row for each offer. What stands in the buffer after the entries stays.
-fn try_over<const ROWS: usize>(
+// Lists what can happen next, questions 12 to 14, if the lent table has a row for each offer. What stands in the buffer after the entries stays. Rows and links are lent one by one, here and in
+// list_over, as a caller of list_over may have them.
+fn try_over(
     tables: Tables,
     state: &[i64],
-    space: &mut Space<ROWS>,
+    rows: &mut [Row],
+    firsts: &mut [u16; Table::BUCKETS],
+    nexts: &mut [u16],
     listing: &mut [u64],
 ) -> Result<Listed, Stop>
-    requires { ((m : Resolved.Model) × (s : State) × World tables.nodes.now tables.roots.now tables.scopes.now state.now m s) × (length listing.old ≡ listing_length) × (ROWS ≤ row_limit) }
-    ensures { (m : Resolved.Model) (s : State) → World tables.entry.nodes.now tables.entry.roots.now tables.entry.scopes.now state.now m s → TriesOver ROWS (machine.listing m s) listing.new result }
+    requires { ((m : Resolved.Model) × (s : State) × World tables.nodes.now tables.roots.now tables.scopes.now state.now m s) × (length listing.old ≡ listing_length) × (length rows.old ≤ row_limit) × (length nexts.old ≡ length rows.old) }
+    ensures { (m : Resolved.Model) (s : State) → World tables.entry.nodes.now tables.entry.roots.now tables.entry.scopes.now state.now m s → TriesOver (length rows.old) (machine.listing m s) listing.new result }
 {
-    let count = offers::collect(tables, state, &mut space.rows)?;
-    offers::link(
-        &space.rows[..count],
-        &mut space.firsts,
-        &mut space.nexts[..count],
-    );
+    let count = offers::collect(tables, state, rows)?;
+    offers::link(&rows[..count], firsts, &mut nexts[..count]);
     let offered = Offers {
-        rows: &space.rows[..count],
-        firsts: &space.firsts,
-        nexts: &space.nexts[..count],
+        rows: &rows[..count],
+        firsts,
+        nexts: &nexts[..count],
     };
     let from = Source {
         tables,
@@ -623,13 +622,15 @@ fn past_full(listed: Result<Listed, Stop>) -> Result<Listed, Refusal>
 pub fn list_over(
     tables: Tables,
     state: &[i64],
-    space: &mut Space<{ Table::ROWS }>,
+    rows: &mut [Row],
+    firsts: &mut [u16; Table::BUCKETS],
+    nexts: &mut [u16],
     listing: &mut [u64],
 ) -> Result<Listed, Refusal>
-    requires { ((m : Resolved.Model) × (s : State) × World tables.nodes.now tables.roots.now tables.scopes.now state.now m s) × (length listing.old ≡ listing_length) }
+    requires { ((m : Resolved.Model) × (s : State) × World tables.nodes.now tables.roots.now tables.scopes.now state.now m s) × (length listing.old ≡ listing_length) × (length rows.old ≡ row_limit) × (length nexts.old ≡ row_limit) }
     ensures { (m : Resolved.Model) (s : State) → World tables.entry.nodes.now tables.entry.roots.now tables.entry.scopes.now state.now m s → Leads (machine.listing m s) result listing.new }
 {
-    past_full(try_over(tables, state, space, listing))
+    past_full(try_over(tables, state, rows, firsts, nexts, listing))
 }
 
 // The same in a table of its own, if that has a row for each offer, and with zeros after the entries.
@@ -642,7 +643,14 @@ fn list_in<const ROWS: usize>(
     ensures { (m : Resolved.Model) (s : State) → World tables.entry.nodes.now tables.entry.roots.now tables.entry.scopes.now state.now m s → Tries ROWS (machine.listing m s) listing.new result }
 {
     let mut space = Space::<ROWS>::EMPTY;
-    let listed = try_over(tables, state, &mut space, listing);
+    let listed = try_over(
+        tables,
+        state,
+        &mut space.rows,
+        &mut space.firsts,
+        &mut space.nexts,
+        listing,
+    );
     match listed {
         Ok(l) => listing[l.count * Limits::ENTRY..].fill(0),
         Err(Stop::Refused(_)) => listing.fill(0),

@@ -2,7 +2,7 @@
 use Rattle.std.specs.Prelude.{List, ℕ, Err, Ok}
 use Rattle.std.proofs.Math.Option.{Option, none, some}
 use Rattle.token.specs.Token.{tokens, kinds_of}
-use Rattle.token.specs.Questions.{bytes_judged, refusal, Judged}
+use Rattle.token.specs.Questions.{bytes_judged, Judged}
 use Rattle.grammar.specs.Syntax
 use Rattle.grammar.specs.Syntax.{syntax_of}
 use Rattle.grammar.specs.Verdict.{Verdict, fitting, failing, verdict}

@@ -1,7 +1,7 @@
 -- What opening a text answers, questions 2 to 10 in order (01, Opening a text): a number with a byte's place, or the model. Assumes nothing: these are definitions.
 use Rattle.std.specs.Prelude.{List, [], ◌∷◌, cond, ℕ, zero, suc, ◌+◌, ◌*◌, leb, ltb, length, None, Some, Err, Ok}
 use Rattle.token.specs.Token.{tokens, kinds_of}
-use Rattle.token.specs.Questions.{bytes_judged, Found, refusal, Judged}
+use Rattle.token.specs.Questions.{bytes_judged, Found, Judged}
 use Rattle.grammar.specs.Limit.{token_limit}
 use Rattle.grammar.specs.Syntax
 use Rattle.grammar.specs.Syntax.{syntax_of}

@@ -110,7 +110,7 @@ pub fn bucket_of(first: i64, second: i64, third: i64) -> usize
 }
 
 // Links a row to the first of its bucket so far, if it is a handshake receive, and makes it the first. Rows and links stay three, here and in `link`, and no `Space`: a caller may have rows of its own,
-// and of a Space only the rows in use are linked, so that a method would take their count and say of the first rows what is said here of all.
+// and of a Space only the rows in use are linked, so that a method would take their count and say of the first rows what is said here of all. A struct of the lent slices would be made for two functions.
 fn link_row(rows: &[Row], row: usize, firsts: &mut [u16; Table::BUCKETS], nexts: &mut [u16])
     requires { (row < length rows.now) × (row < row_limit) × (length nexts.old ≡ length rows.now) }
     ensures { Linked rows.now (suc row) firsts.old nexts.old → Linked rows.now row firsts.new nexts.new }
@@ -308,7 +308,7 @@ pub fn collect(tables: Tables, state: &[i64], rows: &mut [Row]) -> Result<usize,
     ensures { (m : Resolved.Model) (s : State) → Collect.World tables.entry.nodes.now tables.entry.roots.now tables.entry.scopes.now state.now m s → Collect.Answers tables.entry.nodes.now rows.new m s.processes result }
 {
     let places = state::process_count(state);
-    // Behind a `&mut`: of a struct by value, what its slice holds isn't known at the loop's end.
+    // Behind a `&mut`: with the struct by value no proof was found that its slice holds at the loop's end what the last turn left.
     let filling = &mut Filling { rows, count: 0 };
     for place in 0..places {
         collect_place(tables, state, place, filling)?;

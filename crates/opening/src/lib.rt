@@ -46,7 +46,8 @@ pub struct Words<'a> {
 }
 
 // The tables that a text is read into, with room for every text: the kind, place, size and content of each token; the nodes of its tree; for each sum the root of its branches and its scope;
-// and its channel names. The functions below are lent tables one by one, of whatever lengths a caller has them.
+// and its channel names. The functions below are lent them one by one, as callers know them, and so are the private ones: a struct of the lent slices would be made by four callers, each of
+// seven contracts would promise that its references stay, and a body would take them into variables.
 #[derive(Drop)]
 pub struct Space {
     pub kinds: [u8; token::Limits::TEXT],

@@ -300,9 +300,16 @@ impl<'a> Making<'a> {
         ensures same { Stays self.old self.new }
         ensures goes { (z : List ℕ) (m : Resolved.Model) (r : Run) → StandsIn given.entry z self.old p m r → GoesIn given.entry z (run_step given.entry.words.now given.entry.waiting.now m r) result self.new m }
     {
-        // Not `&*`: beside a shared loan of one field the check covers none to write of another.
+        // Not `&*`: beside a shared loan through a field that is a reference the check covers none to write of another field.
         let state = &mut *self.state;
-        let listed = listing::list_over(given.tables, state, &mut self.space, &mut self.listing);
+        let listed = listing::list_over(
+            given.tables,
+            state,
+            &mut self.space.rows,
+            &mut self.space.firsts,
+            &mut self.space.nexts,
+            &mut self.listing,
+        );
         match listed {
             Err(refusal) => p.ended(End::Unlisted(refusal), 0, 0),
             Ok(listed) => self.step_counted(given, listed, p),

@@ -1,11 +1,11 @@
 #![tactic(auto)]
 
 // The buffer of the saves: names as two numbers, a state with its clock, the exact test of question 11, and what a save, a return and a forget write.
-ghost use Rattle.std.specs.Prelude.{◌≡◌, true, List, [], ◌∷◌, ◌+◌, ◌*◌, ◌<◌, ℤ, length, IfSome};
+ghost use Rattle.std.specs.Prelude.{◌≡◌, true, List, [], ◌∷◌, ◌+◌, ◌*◌, ◌≤◌, ◌<◌, ℤ, length, IfSome};
 ghost use Rattle.word.specs.Name.{word_bytes};
 ghost use Rattle.clock.specs.Clock.{InRange};
 ghost use Rattle.machine.specs.State.{state_length};
-ghost use Rattle.machine.specs.Saves.{is_letter, is_name, save_limit, first_of, saves_length};
+ghost use Rattle.machine.specs.Saves.{is_letter, is_name, save_limit, first_of, key_width, saves_length};
 ghost use Rattle.state.specs.Test.{every};
 ghost use Rattle.saves.specs.Keys.{is_word, is_key, is_key_of};
 ghost use Rattle.saves.specs.Kept.{besides, is_natural, clock_at, is_clock, is_kept};
@@ -102,7 +102,8 @@ pub fn key_of(name: &[u8]) -> Option<[i64; Layout::KEY]>
 
 // Whether a row begins with the two numbers of a key, each compared as the definition does.
 #[tactic(auto, unfolding(crate::specs::Places::has_key))]
-fn has_key(row: &[i64; Layout::PLACE], key: &[i64; Layout::KEY]) -> bool
+fn has_key(row: &[i64; Layout::PLACE], key: &[i64]) -> bool
+    requires { key_width ≤ length key.now }
     ensures { result ≡ has_key key.now row.now }
 {
     row[0] == key[0] && row[1] == key[1]
@@ -117,7 +118,8 @@ fn places_in(saves: &[i64]) -> &[[i64; Layout::PLACE]]
 }
 
 // The first place with such a key.
-pub fn find_place(places: &[[i64; Layout::PLACE]], key: &[i64; Layout::KEY]) -> Option<usize>
+pub fn find_place(places: &[[i64; Layout::PLACE]], key: &[i64]) -> Option<usize>
+    requires { key_width ≤ length key.now }
     ensures place { result ≡ below (length places.now) (first_of (has_key key.now) places.now) }
     ensures within { IfSome result (λ i. i < length places.now) }
 {
@@ -126,8 +128,8 @@ pub fn find_place(places: &[[i64; Layout::PLACE]], key: &[i64; Layout::KEY]) -> 
 
 // The place with such a key, else the first empty one.
 #[tactic(auto, unfolding(crate::specs::Change::below, crate::specs::Change::place_to_take))]
-pub fn place_for(saves: &[i64], key: &[i64; Layout::KEY]) -> Option<usize>
-    requires { length saves.now ≡ saves_length }
+pub fn place_for(saves: &[i64], key: &[i64]) -> Option<usize>
+    requires { (length saves.now ≡ saves_length) × (key_width ≤ length key.now) }
     ensures place { result ≡ below save_limit (place_to_take key.now saves.now) }
     ensures within { IfSome result (λ i. i < save_limit) }
 {

@@ -256,7 +256,7 @@ fn has_part(all: usize, first: usize, size: usize) -> bool
     size <= all && first <= all - size
 }
 
-// Makes the call of a row on what it lends.
+// Makes the call of a row on what it lends: parts cut to the row's sizes, of which a struct would be made at this one call.
 fn make(
     kind: Kind,
     row: Row,

@@ -363,7 +363,7 @@ fn settle_node(parsed: Parsed, met: &mut Channels, walk: Walk, node: u64) -> (u6
 }
 
 // Resolves the model at this root: one walk over its definitions and its system line, in the text's order. For each sum the root of its branches and its scope are kept, and names is where
-// the channel names hang. The tables are lent one by one, of whatever lengths a caller has them.
+// the channel names hang. The tables are lent one by one, as opening says of its own; `mark_sum`, of one call, is lent two of them.
 pub fn settle(
     contents: &[Content],
     nodes: &mut [u64],

@@ -48,7 +48,7 @@ pub fn read<'a>(model: &[u8], space: &'a mut Space) -> Option<Settled<'a>>
     })
 }
 
-// Question 11 of a state, then the run over the tables of a model.
+// Question 11 of a state, then the run over the tables of a model. State and events go on one by one, as C lends them, up to running's own struct.
 fn run_tables(
     settled: Settled,
     state: &mut [i64],

@@ -81,7 +81,7 @@ fn offender(profile: Profile, contents: &[Content], nodes: &[u64], root: usize) 
     }
 }
 
-// All questions of this profile, 29 after 10, and the model. The tables are lent one by one, as opening's functions are.
+// All questions of this profile, 29 after 10, and the model. The tables are lent one by one, as opening says of its own.
 pub fn open_under(
     profile: Profile,
     text: &[u8],

@@ -38,7 +38,7 @@ fn push_known(state: &mut [i64], sum: usize, locals: &[i64], scopes: &[u16])
     state::push_process(state, sum, locals, definition);
 }
 
-// Pushes a process for each sum at k. The walk is that of eval's `Rows::put_sums`, which writes rows for a splice: what each asks of its room differs, so a closure for the one step would have to carry it.
+// Pushes a process for each sum at k. The walk is that of eval's `Rows::put_sums`, which writes rows for a splice: what each asks of its room differs, so a trait for the one step would have to carry it.
 // Tables and state stay two, here and below: the tables are read and copied, the state is written, and with a struct of both each of these contracts would promise that tables and reference stay.
 fn push_sums(tables: Tables, k: usize, locals: &[i64], state: &mut [i64])
     requires { Start.SumsFit tables.nodes.now tables.scopes.now k locals.now state.old }
@@ -73,7 +73,7 @@ fn whole_at(nodes: &[u64], k: usize) -> i64
     eval::eval_node(context, k).unwrap_or(0)
 }
 
-// Writes the whole numbers at k from place `at` on. The walk is that of eval's `put_arguments`, which says why they are two.
+// Writes the whole numbers at k from place `at` on. The walk is that of eval's `put_arguments`, which says why they are two, and why values and place are.
 fn put_wholes(nodes: &[u64], k: usize, values: &mut [i64], at: usize)
     requires { Start.WholesFit nodes.now k (length values.old) at }
     ensures { (zs : List ℤ) → Represents.Wholes nodes.now zs k → values.new ≡ sets values.old at zs }

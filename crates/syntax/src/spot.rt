@@ -4,7 +4,7 @@ ghost use Rattle.tree.specs.Reading.{Ready};
 
 use crate::left::Left;
 
-// At the token `at`, with `used` nodes of the table used.
+// At the token `at`, with `used` nodes of the table used. The nodes are lent beside it: a Spot is copied, and a struct with a `&mut` can't be.
 #[derive(Clone, Copy)]
 pub struct Spot<'a> {
     pub toks: &'a [u8],

@@ -1,6 +1,9 @@
 -- `listing::list_in` meets its contract: what leads, and zeros after it.
-use mathlib.Core.Path.{ap, ◌∙◌}
+use mathlib.Core.Path.{ap, ◌∙◌, subst}
+use Prim.Native.Nat.{ℕ, ◌<◌}
+use Rattle.offers.specs.Links.{row_limit}
 use native.Mathlib.Omega.{arith}
+use borrow.Author.Rules.{rules}
 use Rattle.std.specs.Prelude.{Err, Ok}
 use Rattle.listing.specs.Buffer.{done, full}
 use Rattle.listing.proofs.Finished.{all-led, not_short, filled-fits, clears, clears-all, tail-zeros}
@@ -32,4 +35,4 @@ returns-in-Err-Refused g c =
     done (Err c.in-Err-Refused.field-0-0) e (rw (c.fill-in-Err-Refused.ensures.after (λ y e. e)) (clears-all (omega (arith, c.try_over-listed.auto.listing, c.requires.1)) (all-led (Err c.in-Err-Refused.field-0-0) e (c.try_over-listed.ensures m s w))))
 
 pub returns-in-Err-Full : goal.returns-in-Err-Full
-returns-in-Err-Full g c = λ m s w. let e = c.in-Err-Full.is ∙ ap Err (rw c.in-Err-Full.is at c.in-Err-Full.field-0-is) in full e (not_short e (c.try_over-listed.ensures m s w))
+returns-in-Err-Full g c = λ m s w. let e = c.in-Err-Full.is ∙ ap Err (rw c.in-Err-Full.is at c.in-Err-Full.field-0-is) in full e (subst (λ (n : ℕ). n < row_limit) (search rules) (not_short e (c.try_over-listed.ensures m s w)))

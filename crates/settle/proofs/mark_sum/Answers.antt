@@ -1,4 +1,3 @@
-use mathlib.Core.Path.{refl}
 use Prim.Native.Nat.{◌+◌, ◌-◌, ◌*◌}
 use Rattle.settle.proofs.Meets.{marked-sum, marked-none}
 use Rattle.settle.proofs.mark_sum.Goals as goal

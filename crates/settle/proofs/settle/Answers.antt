@@ -1,7 +1,7 @@
 use Rattle.token.specs.Contents.{lows_in, highs_in}
 use Rattle.settle.proofs.Stands.{inside-nodes, turn, sum-asked, stepped}
 use Rattle.settle.proofs.Resolving.{standing-at, progressed, look, starting, line-inside, resolvable, settled-so}
-use mathlib.Core.Path.{◌≡◌, refl}
+use mathlib.Core.Path.{refl}
 use lib.ListN.{length}
 use native.Mathlib.Omega.{arith}
 use Rattle.settle.specs.Places.{Resolvable}

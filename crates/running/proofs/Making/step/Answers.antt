@@ -5,7 +5,7 @@ use Rattle.running.proofs.Making.step.Goals as goal
 
 pub list_over-listed-requires : goal.list_over-listed-requires
 list_over-listed-requires c =
-    ((c.requires.0.1, c.requires.0.2.timed.state, world c.requires.0.3.lent), search rules)
+    ((c.requires.0.1, c.requires.0.2.timed.state, world c.requires.0.3.lent), search rules, search rules, search rules)
 
 pub step_counted-requires : goal.step_counted-requires
 step_counted-requires c =

@@ -20,15 +20,23 @@ use Rattle.grammar.specs.Syntax
 use Rattle.grammar.specs.Syntax.{wide, sets_at, count_names, names_at, channel_at, action_at, branch_at, syntax_of}
 use Rattle.grammar.proofs.Wide.{wide-sets, wide-channel, wide-gate}
 use Rattle.model.specs.Lists.{every_other}
-use Rattle.model.specs.Sites.{Scope, Site, value, bound, expr_sites, exprs_sites, set_sites, cond_sites, gate_sites, scale_sites, rate_sites, is_lone, item_sites, channel_sites, values_sites, sets_sites, count_sets, tokens_of, action_sites, args_sites}
+use Rattle.model.specs.Sites.{Scope, Site, whole, value, scale, bound, branch, call, expr_sites, exprs_sites, set_sites, cond_sites, gate_sites, scale_sites, rate_sites, is_lone, item_sites, channel_sites, values_sites, sets_sites, count_sets, tokens_of, action_sites, args_sites}
 use Rattle.model.specs.Words.{word_of}
 use Rattle.model.specs.Stands.{BranchIn, SiteIn, beginning, in_gate, in_action, in_rate, calling, in_call}
 use Rattle.model.specs.Questions.{Yes5}
-use Rattle.model.proofs.Exceeds.{Simple, expr-simple}
 use Rattle.model.proofs.Lone.{action_in}
 use Rattle.model.proofs.Origins.{past, next-token, token-is, written}
 
 -- ---- no names but in binding actions
+
+-- a site of an expression or a number
+abbrev Simple : Site → Type 0
+Simple (whole b k) = Unit {0}
+Simple (value k) = Unit {0}
+Simple (scale k) = Unit {0}
+Simple (bound ks n) = ⊥
+Simple (branch i k) = ⊥
+Simple (call k n) = ⊥
 
 abbrev AllSimple : List Site → Type 0
 AllSimple xs = (x : Site) → In x xs → Simple x
@@ -37,7 +45,11 @@ both : (xs ys : List Site) → AllSimple xs → AllSimple ys → AllSimple (xs +
 both xs ys h g x i = ⊎_elim (λ (j : In x xs). h x j) (λ (j : In x ys). g x j) (append_cases xs i)
 
 simple-expr : (e : Syntax.Expr) → AllSimple (expr_sites e)
-simple-expr e x i = expr-simple e i
+unfolding expr_sites
+simple-expr (Syntax.literal b k) = λ x i. subst (λ (y : Site). Simple y) (sym (eq_of_singleton i)) tt
+simple-expr (Syntax.named k) = λ x i. subst (λ (y : Site). Simple y) (sym (eq_of_singleton i)) tt
+simple-expr (Syntax.absolute e) = simple-expr e
+simple-expr (Syntax.binary o e f) = both (expr_sites e) (expr_sites f) (simple-expr e) (simple-expr f)
 
 simple-exprs : (r : Syntax.Exprs) → AllSimple (exprs_sites r)
 unfolding exprs_sites

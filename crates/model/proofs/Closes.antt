@@ -14,11 +14,11 @@ use borrow.Author.Tests.{eqb-true}
 use Rattle.value.specs.Range.{InRange}
 use Rattle.grammar.specs.Syntax
 use Rattle.model.specs.Lists.{each}
-use Rattle.model.specs.Sites.{Scope, Site, branch, call, count_args, args_sites, bindings, Variable, variables, Definition, definitions, starts}
+use Rattle.model.specs.Sites.{Scope, Site, whole, branch, call, count_args, args_sites, bindings, Variable, variables, Definition, definitions, starts}
 use Rattle.model.specs.Words.{whole_of}
 use Rattle.model.specs.Limits.{local_limit, branch_limit}
 use Rattle.model.specs.Given.{takes, count_wholes, count_starts, definition_named, is_callable}
-use Rattle.model.specs.Resolved.{Model, channel_names, definition_number, sum_number, sum_numbers, defined, resolve_call, parts_of, parts_in, resolve_next, resolve_branch, resolve_branches, sum_tree, branches_tree, branch_tree, next_tree, cont_tree, conts_tree, sums_tree, all_sums, literal_value, whole_values, start_values, resolve_start, resolved}
+use Rattle.model.specs.Resolved.{Model, channel_names, definition_number, sum_number, sum_numbers, defined, resolve_call, parts_of, parts_in, resolve_next, resolve_branch, resolve_branches, sum_tree, branches_tree, branch_tree, next_tree, cont_tree, conts_tree, sums_tree, all_sums, whole_values, start_values, resolve_start, resolved}
 use Rattle.model.specs.Good.{Every, SumWith, Callable, GoodPart, GoodBranch, GoodSum, GoodDefined, GoodStart, GoodModel}
 use Rattle.model.specs.Stands.{branches_of, branches_in, items_of, sums_of, Holds, itself, grouped, SumIn, continued, BranchIn, SiteIn, beginning, in_gate, in_action, in_rate, calling, in_call}
 use Rattle.model.specs.Stands as stands
@@ -241,19 +241,12 @@ module _ (w : ℕ → List ℕ) (m : Syntax.Model) where
 
     -- ---- the system line
 
-    literal-good : (e : Syntax.Expr) → ((b : Bool) (k : ℕ) → e ≡ Syntax.literal b k → InRange (whole_of w b k)) → InRange (literal_value w vs ds cs e)
-    unfolding literal_value
-    literal-good (Syntax.literal b k) h = h b k refl
-    literal-good (Syntax.named k) h = record { low = refl; high = refl }
-    literal-good (Syntax.absolute e) h = record { low = refl; high = refl }
-    literal-good (Syntax.binary o e f) h = record { low = refl; high = refl }
-
-    wholes-good : (r : Syntax.Wholes) → ((b : Bool) (k : ℕ) → In (Syntax.literal b k) (wholes_of r) → InRange (whole_of w b k)) → (length (whole_values w vs ds cs r) ≡ count_wholes r) × Every InRange (whole_values w vs ds cs r)
+    wholes-good : (r : Syntax.Wholes) → ((b : Bool) (k : ℕ) → In (whole b k) (wholes_of r) → InRange (whole_of w b k)) → (length (whole_values w vs ds cs r) ≡ count_wholes r) × Every InRange (whole_values w vs ds cs r)
     unfolding wholes_of whole_values count_wholes Every
-    wholes-good (Syntax.last_whole e) h = (refl, (literal-good e (λ b k q. h b k (head (sym q))), tt))
-    wholes-good (Syntax.next_whole e r) h = let g = wholes-good r (λ b k i. h b k (tail i)) in (omega (arith, g.0), (literal-good e (λ b k q. h b k (head (sym q))), g.1))
+    wholes-good (Syntax.last_whole b k) h = (refl, (h b k (head refl), tt))
+    wholes-good (Syntax.next_whole b k r) h = let g = wholes-good r (λ c j i. h c j (tail i)) in (omega (arith, g.0), (h b k (head refl), g.1))
 
-    values-good : (s : Syntax.Starts) → ((b : Bool) (k : ℕ) → In (Syntax.literal b k) (start_wholes s) → InRange (whole_of w b k)) → (length (start_values w vs ds cs s) ≡ count_starts s) × Every InRange (start_values w vs ds cs s)
+    values-good : (s : Syntax.Starts) → ((b : Bool) (k : ℕ) → In (whole b k) (start_wholes s) → InRange (whole_of w b k)) → (length (start_values w vs ds cs s) ≡ count_starts s) × Every InRange (start_values w vs ds cs s)
     unfolding start_wholes start_values count_starts Every
     values-good Syntax.no_starts h = (refl, tt)
     values-good (Syntax.starts r) h = wholes-good r h

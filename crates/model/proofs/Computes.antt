@@ -91,7 +91,7 @@ unfolding sites_of not_given_in worth ten_thousandths Words.nth Words.place_of W
     Resolved.value_named Resolved.scale_named Resolved.resolve_expr Resolved.resolve_set Resolved.resolve_cond Resolved.resolve_gate Resolved.resolve_scale Resolved.resolve_rate Resolved.item_named
     Resolved.resolve_item Resolved.resolve_channel Resolved.resolve_values Resolved.resolve_sets Resolved.resolve_action Resolved.resolve_args Resolved.resolve_call Resolved.parts_of Resolved.parts_in Resolved.resolve_next
     Resolved.resolve_branch Resolved.resolve_branches Resolved.sum_tree Resolved.branches_tree Resolved.branch_tree Resolved.next_tree Resolved.cont_tree Resolved.conts_tree Resolved.sums_tree
-    Resolved.all_sums Resolved.literal_value Resolved.whole_values Resolved.start_values Resolved.resolve_start Resolved.resolved
+    Resolved.all_sums Resolved.whole_values Resolved.start_values Resolved.resolve_start Resolved.resolved
 resolved_from w s = Resolved.resolved w s
 
 -- the place of a token

@@ -31,7 +31,7 @@ use Rattle.token.specs.Token.{Mark, tokens}
 use Rattle.token.specs.Contents.{bytes_of, before_point, after_point, few_digits}
 use Rattle.grammar.specs.Syntax
 use Rattle.model.specs.Lists.{each, when}
-use Rattle.model.specs.Sites.{Scope, Site, whole, value, scale, bound, branch, call, expr_sites, scale_sites, Variable, variables, definitions, starts, names, titles, over_sites}
+use Rattle.model.specs.Sites.{Scope, Site, whole, value, scale, bound, branch, call, scale_sites, Variable, variables, definitions, starts, names, titles, over_sites}
 use Rattle.model.specs.Words.{word_of, whole_of}
 use Rattle.model.specs.Limits.{count_limit, variable_limit, definition_limit, parameter_limit, local_limit, branch_limit, is_missing, word_beyond, words_beyond, whole_beyond, site_beyond, variable_beyond, definition_beyond, wholes_beyond, starts_beyond, start_beyond, tree_beyond, beyond}
 use Rattle.model.specs.Stands.{SiteIn}
@@ -53,22 +53,6 @@ out-missing z h = by (value_of z) refl
     by : (v : Value) → value_of z ≡ v → is_missing v ≡ true
     by (Some x) e = absurd (h (subst (λ (y : ℤ). InRange y) (sym (value-is z x e)) (value-good z x e)))
     by None e = refl
-
--- a site of an expression or a number
-abbrev pub Simple : Site → Type 0
-Simple (whole b k) = Unit {0}
-Simple (value k) = Unit {0}
-Simple (scale k) = Unit {0}
-Simple (bound ks n) = ⊥
-Simple (branch i k) = ⊥
-Simple (call k n) = ⊥
-
-pub expr-simple : {x : Site} (e : Syntax.Expr) → In x (expr_sites e) → Simple x
-unfolding expr_sites
-expr-simple (Syntax.literal b k) i = subst (λ (y : Site). Simple y) (sym (eq_of_singleton i)) tt
-expr-simple (Syntax.named k) i = subst (λ (y : Site). Simple y) (sym (eq_of_singleton i)) tt
-expr-simple (Syntax.absolute e) i = expr-simple e i
-expr-simple {x} (Syntax.binary o e f) i = ⊎_elim (λ (l : In x (expr_sites e)). expr-simple e l) (λ (l : In x (expr_sites f)). expr-simple f l) (append_cases (expr_sites e) i)
 
 -- ---- tokens
 
@@ -151,38 +135,24 @@ module _ (text : List ℕ) where
 
     -- ---- outside definitions
 
-    simple-beyond : {k : ℕ} {P : Type 0} (x : Site) → Simple x → ((b : Bool) (j : ℕ) → x ≡ whole b j → In k (whole_beyond w b j) → P) → In k (site_beyond w [] x) → P
-    unfolding site_beyond
-    simple-beyond (whole b j) s f i = f b j refl i
-    simple-beyond (value j) s f i = absurd (nowhere i)
-    simple-beyond (scale j) s f i = absurd (nowhere i)
-    simple-beyond (bound ks n) s f i = absurd s
-    simple-beyond (branch p j) s f i = absurd s
-    simple-beyond (call j n) s f i = absurd s
-
-    in-expr : {k : ℕ} {P : Type 0} (e : Syntax.Expr) → ((b : Bool) (j : ℕ) → In (whole b j) (expr_sites e) → In k (whole_beyond w b j) → P) → In k (each (site_beyond w []) (expr_sites e)) → P
-    in-expr e f i =
-        let s = in-each (site_beyond w []) (expr_sites e) i in
-        simple-beyond s.0 (expr-simple e s.1) (λ b j d. f b j (subst (λ (x : Site). In x (expr_sites e)) d s.1)) s.2
-
     variable-beyond : {k : ℕ} (v : Variable) (n : Syntax.Scale) → v.number ≡ n → In v (variables m) → In k (each (site_beyond w []) (scale_sites n)) → Beyond text m k
     unfolding scale_sites each site_beyond
     variable-beyond v (Syntax.number b false j) e h i = whole-beyond b j (in_variable h e) (rw (append-nil (whole_beyond w b j)) at i)
     variable-beyond v (Syntax.number b true j) e h i = absurd (nowhere i)
     variable-beyond v (Syntax.named_scale j) e h i = absurd (nowhere i)
 
-    wholes-beyond : {k : ℕ} {P : Type 0} (r : Syntax.Wholes) → ((e : Syntax.Expr) (b : Bool) (j : ℕ) → In e (wholes_of r) → In (whole b j) (expr_sites e) → In k (whole_beyond w b j) → P) → In k (wholes_beyond w r) → P
+    wholes-beyond : {k : ℕ} {P : Type 0} (r : Syntax.Wholes) → ((b : Bool) (j : ℕ) → In (whole b j) (wholes_of r) → In k (whole_beyond w b j) → P) → In k (wholes_beyond w r) → P
     unfolding wholes_beyond wholes_of
-    wholes-beyond (Syntax.last_whole e) f i = in-expr e (λ b j. f e b j (head refl)) i
-    wholes-beyond {k} (Syntax.next_whole e r) f i =
-        ⊎_elim (λ (l : In k (each (site_beyond w []) (expr_sites e))). in-expr e (λ b j. f e b j (head refl)) l)
-        (λ (l : In k (wholes_beyond w r)). wholes-beyond r (λ x b j n. f x b j (tail n)) l) (append_cases _ i)
+    wholes-beyond (Syntax.last_whole b j) f i = f b j (head refl) i
+    wholes-beyond {k} (Syntax.next_whole b j r) f i =
+        ⊎_elim (λ (l : In k (whole_beyond w b j)). f b j (head refl) l)
+        (λ (l : In k (wholes_beyond w r)). wholes-beyond r (λ c n h. f c n (tail h)) l) (append_cases _ i)
 
     starts-beyond : {k : ℕ} (s : Syntax.Start) (r : Syntax.Starts) → start_list s ≡ r → In s (starts m) → In k (starts_beyond w r) → Beyond text m k
     unfolding starts_beyond start_wholes
     starts-beyond s Syntax.no_starts e h i = absurd (nowhere i)
     starts-beyond s (Syntax.starts r) e h i =
-        wholes-beyond r (λ x b j n l p. whole-beyond b j (in_system h (subst (λ (t : Syntax.Starts). In x (start_wholes t)) (sym e) n) l) p) i
+        wholes-beyond r (λ b j n p. whole-beyond b j (in_system h (subst (λ (t : Syntax.Starts). In (whole b j) (start_wholes t)) (sym e) n)) p) i
 
     start-beyond : {k : ℕ} (s : Syntax.Start) → In s (starts m) → In k (start_beyond w s) → Beyond text m k
     unfolding start_beyond start_list
@@ -282,23 +252,19 @@ module _ (text : List ℕ) where
     unfolding tree_beyond
     from-starts i = from-tree (right (named ++ defined) (right in_sites i))
 
-    expr-whole : {b : Bool} {k : ℕ} (e : Syntax.Expr) → In (whole b k) (expr_sites e) → (InRange (whole_of w b k) → ⊥) → In k (each (site_beyond w []) (expr_sites e))
-    unfolding site_beyond
-    expr-whole {b} {k} e i h = each_in (site_beyond w []) (expr_sites e) i (beyond-whole b k h)
+    wholes-whole : {x : Site} {k : ℕ} (r : Syntax.Wholes) → In x (wholes_of r) → In k (site_beyond w [] x) → In k (wholes_beyond w r)
+    unfolding wholes_of wholes_beyond site_beyond
+    wholes-whole {x} {k} (Syntax.last_whole b j) i h = subst (λ (y : Site). In k (site_beyond w [] y)) (eq_of_singleton i) h
+    wholes-whole {x} {k} (Syntax.next_whole b j r) i h =
+        ⊎_elim (λ (d : x ≡ whole b j). left (wholes_beyond w r) (subst (λ (y : Site). In k (site_beyond w [] y)) d h))
+        (λ (l : In x (wholes_of r)). right (whole_beyond w b j) (wholes-whole r l h)) (cases i)
 
-    wholes-whole : {e : Syntax.Expr} {k : ℕ} (r : Syntax.Wholes) → In e (wholes_of r) → In k (each (site_beyond w []) (expr_sites e)) → In k (wholes_beyond w r)
-    unfolding wholes_of wholes_beyond
-    wholes-whole {e} {k} (Syntax.last_whole x) i h = subst (λ (y : Syntax.Expr). In k (each (site_beyond w []) (expr_sites y))) (eq_of_singleton i) h
-    wholes-whole {e} {k} (Syntax.next_whole x r) i h =
-        ⊎_elim (λ (d : e ≡ x). left (wholes_beyond w r) (subst (λ (y : Syntax.Expr). In k (each (site_beyond w []) (expr_sites y))) d h))
-        (λ (j : In e (wholes_of r)). right (each (site_beyond w []) (expr_sites x)) (wholes-whole r j h)) (cases i)
-
-    starts-whole : {e : Syntax.Expr} {k : ℕ} (r : Syntax.Starts) → In e (start_wholes r) → In k (each (site_beyond w []) (expr_sites e)) → In k (starts_beyond w r)
+    starts-whole : {x : Site} {k : ℕ} (r : Syntax.Starts) → In x (start_wholes r) → In k (site_beyond w [] x) → In k (starts_beyond w r)
     unfolding start_wholes starts_beyond
     starts-whole Syntax.no_starts i h = absurd (nowhere i)
     starts-whole (Syntax.starts r) i h = wholes-whole r i h
 
-    start-whole : {e : Syntax.Expr} {k : ℕ} (s : Syntax.Start) → In e (start_wholes (start_list s)) → In k (each (site_beyond w []) (expr_sites e)) → In k (start_beyond w s)
+    start-whole : {x : Site} {k : ℕ} (s : Syntax.Start) → In x (start_wholes (start_list s)) → In k (site_beyond w [] x) → In k (start_beyond w s)
     unfolding start_beyond start_list
     start-whole (Syntax.once j s) i h = starts-whole s i h
     start-whole (Syntax.counted c j s) i h = right (when (ltb count_limit (worth 0 (w c))) c) (starts-whole s i h)
@@ -311,7 +277,7 @@ module _ (text : List ℕ) where
     unfolding site_beyond
     whole-listed {b} {k} (in_definition h) n = from-sites (over-in w m (site_beyond w) h (beyond-whole b k n))
     whole-listed {b} {k} (in_variable {v = v} h e) n = from-variables (each_in (variable_beyond w) (variables m) h (variable-whole v b k e n))
-    whole-listed {b} {k} (in_system {s = s} h i j) n = from-starts (each_in (start_beyond w) (starts m) h (start-whole s i (expr-whole _ j n)))
+    whole-listed {b} {k} (in_system {s = s} h i) n = from-starts (each_in (start_beyond w) (starts m) h (start-whole s i (beyond-whole b k n)))
 
     -- a token that is beyond a limit is listed
     pub beyond-listed : {k : ℕ} → Beyond text m k → In k (beyond text m)

@@ -39,7 +39,7 @@ module _ (l : ℕ) where
   one : (x : Site) → Before x → AllBefore (x ∷ [])
   one x h y i = subst (λ (z : Site). Before z) (sym (eq_of_singleton i)) h
 
-  both : (xs ys : List Site) → AllBefore xs → AllBefore ys → AllBefore (xs ++ ys)
+  pub both : (xs ys : List Site) → AllBefore xs → AllBefore ys → AllBefore (xs ++ ys)
   both xs ys h g x i = ⊎_elim (λ (j : In x xs). h x j) (λ (j : In x ys). g x j) (append_cases xs i)
 
   -- ---- expressions

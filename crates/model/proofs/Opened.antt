@@ -135,7 +135,7 @@ module _ (text : List ℕ) (s : Syntax.Model) (y5 : Yes5 text s) (y7 : Yes7 text
         parameters = λ d i. no_longer d.params parameter_limit (λ j k g l. y7 k (parameter i g l));
         definitions = let l = no_longer (titles ds) definition_limit (λ i k g l. y7 k (definition g l)) in omega (arith, length-each (λ d. d.name) ds);
         counts = λ c k r i. at_most _ count_limit (λ l. y7 c (count i l));
-        values = λ r b k i j. whole-fine b k (in_system i j (head refl));
+        values = λ r b k i j. whole-fine b k (in_system i j);
         items = λ r i. so _ (λ e. y9 _ (no_start i (callable-wrong w s y8 _ _ e)));
       }
 

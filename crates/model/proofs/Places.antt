@@ -31,7 +31,7 @@ use Rattle.model.specs.Faults as faults
 use Rattle.model.specs.Questions.{Yes5}
 use Rattle.model.proofs.Members.{got_in, got-below, in-each}
 use Rattle.model.proofs.Origins.{written}
-use Rattle.model.proofs.InText.{Before, AllBefore, literal-before, args-before, gate-before, number-before, rate-before, names-before, action-before}
+use Rattle.model.proofs.InText.{Before, AllBefore, both, literal-before, args-before, gate-before, number-before, rate-before, names-before, action-before}
 
 -- ---- bytes and tokens
 
@@ -179,26 +179,24 @@ module _ (l : ℕ) where
 
   -- its name, its count, and its whole numbers
   abbrev StartBefore : Syntax.Start → Type 0
-  StartBefore (Syntax.once k s) = (k < l) × ((e : Syntax.Expr) → In e (start_wholes s) → AllBefore l (expr_sites e))
-  StartBefore (Syntax.counted c k s) = (c < l) × (k < l) × ((e : Syntax.Expr) → In e (start_wholes s) → AllBefore l (expr_sites e))
+  StartBefore (Syntax.once k s) = (k < l) × AllBefore l (start_wholes s)
+  StartBefore (Syntax.counted c k s) = (c < l) × (k < l) × AllBefore l (start_wholes s)
 
   params-before : (p : derived.Params) (k : ℕ) → k + wide (flat_params p) ≤ l → (j : ℕ) → In j (params_of (params_at p k)) → j < l
   unfolding params_of params_at
   params-before derived.no_params k b j i = absurd (nowhere i)
   params-before (derived.params n) k b j i = names-before l n (k + 1) (omega (arith, (wide-params (derived.params n)).width)) j i
 
-  wholes-before : (r : derived.Wholes) (k : ℕ) → k + wide (flat_wholes r) ≤ l → (e : Syntax.Expr) → In e (wholes_of (wholes_at r k)) → AllBefore l (expr_sites e)
-  unfolding wholes_of wholes_at
-  wholes-before (derived.last_whole v) k b e i =
-      subst (λ (x : Syntax.Expr). AllBefore l (expr_sites x)) (sym (eq_of_singleton i)) (literal-before l v k (omega (arith, (wide-wholes (derived.last_whole v)).width)))
-  wholes-before (derived.next_whole v r) k b e i =
-      ⊎_elim (λ (q : e ≡ literal_at v k). subst (λ (x : Syntax.Expr). AllBefore l (expr_sites x)) (sym q) (literal-before l v k (omega (arith, (wide-wholes (derived.next_whole v r)).width))))
-      (λ (q : In e (wholes_of (wholes_at r (k + wide (flat_whole v) + 1)))). wholes-before r (k + wide (flat_whole v) + 1) (omega (arith, (wide-wholes (derived.next_whole v r)).width)) e q) (cases i)
+  wholes-before : (r : derived.Wholes) (k : ℕ) → k + wide (flat_wholes r) ≤ l → AllBefore l (wholes_of (wholes_at r k))
+  unfolding wholes_of wholes_at expr_sites literal_at
+  wholes-before (derived.last_whole v) k b = literal-before l v k (omega (arith, (wide-wholes (derived.last_whole v)).width))
+  wholes-before (derived.next_whole v r) k b =
+      both l (expr_sites (literal_at v k)) _ (literal-before l v k (omega (arith, (wide-wholes (derived.next_whole v r)).width))) (wholes-before r (k + wide (flat_whole v) + 1) (omega (arith, (wide-wholes (derived.next_whole v r)).width)))
 
-  starts-before : (s : derived.Starts) (k : ℕ) → k + wide (flat_starts s) ≤ l → (e : Syntax.Expr) → In e (start_wholes (starts_at s k)) → AllBefore l (expr_sites e)
+  starts-before : (s : derived.Starts) (k : ℕ) → k + wide (flat_starts s) ≤ l → AllBefore l (start_wholes (starts_at s k))
   unfolding start_wholes starts_at
-  starts-before derived.no_starts k b e i = absurd (nowhere i)
-  starts-before (derived.starts r) k b e i = wholes-before r (k + 1) (omega (arith, (wide-starts (derived.starts r)).width)) e i
+  starts-before derived.no_starts k b = λ x i. absurd (nowhere i)
+  starts-before (derived.starts r) k b = wholes-before r (k + 1) (omega (arith, (wide-starts (derived.starts r)).width))
 
   start-before : (s : derived.Start) (k : ℕ) → k + wide (flat_start s) ≤ l → StartBefore (start_at s k)
   unfolding start_at
@@ -293,7 +291,7 @@ module _ (text : List ℕ) (s : Syntax.Model) (y5 : Yes5 text s) where
   start-name (Syntax.once k r) h = h.0
   start-name (Syntax.counted c k r) h = h.1
 
-  start-values : (x : Syntax.Start) → StartBefore (length ts) x → (e : Syntax.Expr) → In e (start_wholes (start_list x)) → AllBefore (length ts) (expr_sites e)
+  start-values : (x : Syntax.Start) → StartBefore (length ts) x → AllBefore (length ts) (start_wholes (start_list x))
   unfolding start_list
   start-values (Syntax.once k r) h = h.1
   start-values (Syntax.counted c k r) h = h.2
@@ -302,7 +300,7 @@ module _ (text : List ℕ) (s : Syntax.Model) (y5 : Yes5 text s) where
   unfolding scale_sites
   whole_in {b} {k} (in_definition h) = site-in (whole b k) h
   whole_in {b} {k} (in_variable {v = v} i e) = (model_in.0 v i).1 (whole b k) (subst (λ (x : Syntax.Scale). In (whole b k) (scale_sites x)) (sym e) (head refl))
-  whole_in {b} {k} (in_system {s = x} {e = e} i j q) = start-values x (model_in.2 x i) e j (whole b k) q
+  whole_in {b} {k} (in_system {s = x} i j) = start-values x (model_in.2 x i) (whole b k) j
 
   name_in : {k : ℕ} → In k (names (variables s)) → k < length ts
   unfolding names

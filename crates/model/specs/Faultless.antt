@@ -59,5 +59,5 @@ module _ (w : ℕ → List ℕ) (m : Syntax.Model) where
     pub parameters : (d : Definition) → In d ds → length d.params ≤ parameter_limit
     pub definitions : length ds ≤ definition_limit
     pub counts : (c k : ℕ) (s : Syntax.Starts) → In (Syntax.counted c k s) (starts m) → worth 0 (w c) ≤ count_limit
-    pub values : (s : Syntax.Start) (b : Bool) (k : ℕ) → In s (starts m) → In (Syntax.literal b k) (start_wholes (start_list s)) → InRange (whole_of w b k)
+    pub values : (s : Syntax.Start) (b : Bool) (k : ℕ) → In s (starts m) → In (whole b k) (start_wholes (start_list s)) → InRange (whole_of w b k)
     pub items : (s : Syntax.Start) → In s (starts m) → is_callable w ds (start_name s) (count_starts (start_list s)) ≡ true

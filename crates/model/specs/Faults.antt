@@ -11,7 +11,7 @@ use Rattle.token.specs.Kind as kind
 use Rattle.token.specs.Token.{Mark, tokens}
 use Rattle.token.specs.Contents.{bytes_of, before_point, after_point}
 use Rattle.grammar.specs.Syntax
-use Rattle.model.specs.Sites.{Scope, whole, value, scale, bound, branch, call, expr_sites, Variable, Definition, names, titles, variables, definitions, starts}
+use Rattle.model.specs.Sites.{Scope, Site, whole, value, scale, bound, branch, call, Variable, Definition, names, titles, variables, definitions, starts}
 use Rattle.model.specs.Words.{word_of, whole_of}
 use Rattle.model.specs.Limits.{count_limit, variable_limit, definition_limit, parameter_limit, local_limit, branch_limit}
 use Rattle.model.specs.Given.{count_starts}
@@ -27,11 +27,11 @@ unfoldable pub start_list : Syntax.Start → Syntax.Starts
 start_list (Syntax.once k s) = s
 start_list (Syntax.counted c k s) = s
 
-unfoldable pub wholes_of : Syntax.Wholes → List Syntax.Expr
-wholes_of (Syntax.last_whole e) = e ∷ []
-wholes_of (Syntax.next_whole e r) = e ∷ wholes_of r
+unfoldable pub wholes_of : Syntax.Wholes → List Site
+wholes_of (Syntax.last_whole b k) = whole b k ∷ []
+wholes_of (Syntax.next_whole b k r) = whole b k ∷ wholes_of r
 
-unfoldable pub start_wholes : Syntax.Starts → List Syntax.Expr
+unfoldable pub start_wholes : Syntax.Starts → List Site
 start_wholes Syntax.no_starts = []
 start_wholes (Syntax.starts r) = wholes_of r
 
@@ -41,7 +41,7 @@ start_wholes (Syntax.starts r) = wholes_of r
 pub data WholeIn (w : ℕ → List ℕ) (m : Syntax.Model) : Bool → ℕ → Type 0 where
   in_definition : {sc : Scope} {b : Bool} {k : ℕ} → SiteIn w m sc (whole b k) → WholeIn w m b k
   in_variable : {v : Variable} {b : Bool} {k : ℕ} → In v (variables m) → v.number ≡ Syntax.number b false k → WholeIn w m b k
-  in_system : {s : Syntax.Start} {e : Syntax.Expr} {b : Bool} {k : ℕ} → In s (starts m) → In e (start_wholes (start_list s)) → In (whole b k) (expr_sites e) → WholeIn w m b k
+  in_system : {s : Syntax.Start} {b : Bool} {k : ℕ} → In s (starts m) → In (whole b k) (start_wholes (start_list s)) → WholeIn w m b k
 
 -- token k is beyond a limit
 pub data Beyond (text : List ℕ) (m : Syntax.Model) : ℕ → Type 0 where

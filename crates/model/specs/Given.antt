@@ -34,8 +34,8 @@ takes n none = false
 takes n (some d) = eqb (length d.1.params) n
 
 unfoldable pub count_wholes : Syntax.Wholes → ℕ
-count_wholes (Syntax.last_whole e) = 1
-count_wholes (Syntax.next_whole e r) = count_wholes r + 1
+count_wholes (Syntax.last_whole b k) = 1
+count_wholes (Syntax.next_whole b k r) = count_wholes r + 1
 
 unfoldable pub count_starts : Syntax.Starts → ℕ
 count_starts Syntax.no_starts = 0

@@ -8,7 +8,7 @@ use Rattle.token.specs.Token.{Mark, tokens}
 use Rattle.token.specs.Contents.{bytes_of, few_digits}
 use Rattle.grammar.specs.Syntax
 use Rattle.model.specs.Lists.{each, when}
-use Rattle.model.specs.Sites.{Scope, Site, whole, value, scale, bound, branch, call, expr_sites, scale_sites, Variable, Definition, names, titles, variables, definitions, starts, over_sites}
+use Rattle.model.specs.Sites.{Scope, Site, whole, value, scale, bound, branch, call, scale_sites, Variable, Definition, names, titles, variables, definitions, starts, over_sites}
 use Rattle.model.specs.Words.{word_of, whole_of}
 
 -- 01, question 7: how large a count may be
@@ -68,8 +68,8 @@ module _ (w : ℕ → List ℕ) where
   definition_beyond d = drop parameter_limit d.params
 
   unfoldable pub wholes_beyond : Syntax.Wholes → List ℕ
-  wholes_beyond (Syntax.last_whole e) = each (site_beyond []) (expr_sites e)
-  wholes_beyond (Syntax.next_whole e r) = each (site_beyond []) (expr_sites e) ++ wholes_beyond r
+  wholes_beyond (Syntax.last_whole b k) = whole_beyond b k
+  wholes_beyond (Syntax.next_whole b k r) = whole_beyond b k ++ wholes_beyond r
 
   unfoldable pub starts_beyond : Syntax.Starts → List ℕ
   starts_beyond Syntax.no_starts = []

@@ -340,15 +340,9 @@ module _ (w : ℕ → List ℕ) (vs : List Variable) (ds : List Definition) (cs 
   all_sums n [] = []
   all_sums n (d ∷ es) = sums_tree n d.params d.sums ++ all_sums (suc n) es
 
-  unfoldable pub literal_value : Syntax.Expr → ℤ
-  literal_value (Syntax.literal b k) = whole_of w b k
-  literal_value (Syntax.named k) = pos 0
-  literal_value (Syntax.absolute e) = pos 0
-  literal_value (Syntax.binary o e f) = pos 0
-
   unfoldable pub whole_values : Syntax.Wholes → List ℤ
-  whole_values (Syntax.last_whole e) = literal_value e ∷ []
-  whole_values (Syntax.next_whole e r) = literal_value e ∷ whole_values r
+  whole_values (Syntax.last_whole b k) = whole_of w b k ∷ []
+  whole_values (Syntax.next_whole b k r) = whole_of w b k ∷ whole_values r
 
   unfoldable pub start_values : Syntax.Starts → List ℤ
   start_values Syntax.no_starts = []

@@ -20,10 +20,11 @@ use Rattle.tree.proofs.Cells.{node-kind, node-token, node-third}
 use Rattle.tree.proofs.Interval.{kind_at}
 use Rattle.tree.proofs.Holds.{start-interval, system-interval, definitions-interval}
 use Rattle.model.specs.Lists.{each, when, least, every_other}
-use Rattle.model.specs.Sites.{Site, call, expr_sites, tokens_of, params_of, Definition, names, variables, definitions, definitions_in, system_in, starts_in, definition_sites, sums_sites}
-use Rattle.model.specs.Limits.{count_limit, parameter_limit, local_limit, site_beyond, wholes_beyond, starts_beyond, start_beyond}
+use Rattle.model.specs.Sites.{call, expr_sites, tokens_of, params_of, Definition, names, variables, definitions, definitions_in, system_in, starts_in, definition_sites, sums_sites}
+use Rattle.model.specs.Limits.{count_limit, parameter_limit, local_limit, whole_beyond, site_beyond, wholes_beyond, starts_beyond, start_beyond}
 use Rattle.model.specs.Fresh.{repeated}
 use Rattle.model.specs.Given.{is_callable, count_wholes, count_starts, site_wrong, start_wrong}
+use Rattle.model.specs.Faults.{wholes_of}
 use Rattle.names.specs.declared.Question.{Question}
 use Rattle.names.specs.declared.Question.TheVariants.{Limits, Fresh, Given}
 use Rattle.names.specs.declared.Lists.{Lists}
@@ -36,7 +37,6 @@ use Rattle.names.specs.Settings.{Extended, World, Setting, faults_at, known_in}
 use Rattle.names.specs.Walks.{sums, Holds, part_sites, faults_over, Place, Ground, part_faults, PartRoom, param_faults, definition_faults, defined, count_faults, start_faults, lines_faults, definition_judged, lines_judged, DefinitionRoom, LinesRoom}
 use Rattle.names.proofs.Earliest.{least-append, nothing-first, nothing-second, told}
 use Rattle.names.proofs.Between.{Lies, lies-two, expr-lies}
-use Rattle.names.proofs.Judges.{each_append}
 use Rattle.names.proofs.Scopes.{every-length, every-inside, setting-more}
 use Rattle.names.proofs.Parts.{left_at, third_at, token_at, two-parts, over}
 use Rattle.names.proofs.Acts.{drop-few}
@@ -199,25 +199,21 @@ module _ (c κ : ℕ) (κ-is : κ ≡ kind_of c) (b : Bool) (is : b ≡ (eqb κ 
   uncounted e w = rw (count-is w (token_of c - 2), e)
 
 -- ---- items of the system line
-unfoldable pub wholes_sites : Syntax.Wholes → List Site
-wholes_sites (Syntax.last_whole e) = expr_sites e
-wholes_sites (Syntax.next_whole e r) = expr_sites e ++ wholes_sites r
-
-wholes-are : (w : ℕ → List ℕ) (r : Syntax.Wholes) → wholes_beyond w r ≡ each (site_beyond w []) (wholes_sites r)
-unfolding wholes_beyond wholes_sites
-wholes-are w (Syntax.last_whole e) = refl
-wholes-are w (Syntax.next_whole e r) = ap (λ (l : List ℕ). each (site_beyond w []) (expr_sites e) ++ l) (wholes-are w r) ∙ sym (each_append [] (site_beyond w []) (expr_sites e) (wholes_sites r))
+wholes-are : (w : ℕ → List ℕ) (r : Syntax.Wholes) → wholes_beyond w r ≡ each (site_beyond w []) (wholes_of r)
+unfolding wholes_beyond wholes_of site_beyond each
+wholes-are w (Syntax.last_whole b k) = sym (append-nil (whole_beyond w b k))
+wholes-are w (Syntax.next_whole b k r) = ap (λ (l : List ℕ). whole_beyond w b k ++ l) (wholes-are w r)
 
 count_same : (r : Syntax.Wholes) → Table.count_wholes r ≡ count_wholes r
 unfolding Table.count_wholes count_wholes
-count_same (Syntax.last_whole e) = refl
-count_same (Syntax.next_whole e r) = ap (λ (n : ℕ). n + 1) (count_same r)
+count_same (Syntax.last_whole b k) = refl
+count_same (Syntax.next_whole b k r) = ap (λ (n : ℕ). n + 1) (count_same r)
 
 module _ (t : List ℕ) where
-  wholes-lies : (r : Syntax.Wholes) → Lies t (Table.Wholes t r) (wholes_sites r)
-  unfolding Table.Wholes wholes_sites leaf_sites number_kind
-  wholes-lies (Syntax.last_whole e) = expr-lies t e
-  wholes-lies (Syntax.next_whole e r) = lies-two refl refl (expr-lies t e) (wholes-lies r)
+  wholes-lies : (r : Syntax.Wholes) → Lies t (Table.Wholes t r) (wholes_of r)
+  unfolding Table.Wholes wholes_of expr_sites leaf_sites number_kind
+  wholes-lies (Syntax.last_whole b k) = expr-lies t (Syntax.literal b k)
+  wholes-lies (Syntax.next_whole b k r) = lies-two refl refl (expr-lies t (Syntax.literal b k)) (wholes-lies r)
 
   -- 7 and 9 of an item, by its node and the leaves below it
   abbrev Beyonds : Syntax.Start → ℕ → ℕ → Type 0
@@ -230,7 +226,7 @@ module _ (t : List ℕ) where
   unfolding between
   leaves_none from k e = let z : k - from ≡ 0 = omega arith in rw z
 
-  leaves-some : (r : Syntax.Wholes) (from root k : ℕ) → k ≡ root + 1 → Table.Wholes t r from root → between t from (k - from) ≡ wholes_sites r
+  leaves-some : (r : Syntax.Wholes) (from root k : ℕ) → k ≡ root + 1 → Table.Wholes t r from root → between t from (k - from) ≡ wholes_of r
   leaves-some r from root k e h = let l = (wholes-lies r).low h in (wholes-lies r).leaves h (k - from) (omega arith)
 
   pub start-beyond : (s : Syntax.Start) (from k : ℕ) → Table.Start t s from k → Beyonds s from k

@@ -405,7 +405,7 @@ module _ (ts t : List ℕ) where
       record { fits = λ lo m h i a c. f.fits lo m h.2 i a c }
 
   wholes-fit : (r : derived.Wholes) (k : ℕ) (us : List ℕ) → drop k ts ≡ flat_wholes r us → Fit (Table.Wholes t (wholes_at r k))
-  unfolding flat_wholes wholes_at Table.Wholes sort_of number_kind
+  unfolding flat_wholes wholes_at literal_at Table.Wholes sort_of number_kind
   wholes-fit (derived.last_whole v) k us d = literal-fit v k us d
   wholes-fit (derived.next_whole v r) k us d =
       fit-plain node.whole 0 0 (omega arith) refl (literal-fit v k _ d) (wholes-fit r (k + wide (flat_whole v) + 1) us (next-token ts (k + wide (flat_whole v)) (past ts k _ (wide-whole v) d)))

@@ -45,7 +45,6 @@ use Rattle.settle.specs.Walks.{NumberSafe}
 use Rattle.settle.specs.Places.{Told, VariableSafe, Base, Resolvable}
 use Rattle.settle.specs.declared.Model.{Model}
 use Rattle.settle.specs.Settles.{Settles}
-use Rattle.settle.proofs.Lines.{system-literal}
 use Rattle.opening.specs.Trees.{Fitted}
 use Rattle.opening.specs.Sound.{Sound}
 use Rattle.opening.specs.Models.{SumRoom}
@@ -172,7 +171,6 @@ module _ {text : List ℕ} {s : Syntax.Model} {kinds places : List ℕ} {content
           faultless = sound;
           new = yes8;
           decimals = rate-told;
-          literals = rw f.read.tree (system-literal f.read.reading);
           roots-room = omega (arith, f.fewer, f.read.few, room.roots-room);
           scopes-room = omega (arith, f.fewer, f.read.few, room.scopes-room);
           names-room = omega (arith, f.fewer, f.read.few, room.names-room);

@@ -19,7 +19,7 @@ use Rattle.tree.specs.Table.{Node, One, Two}
 use Rattle.tree.proofs.Cells.{node-kind, node-left, node-third}
 use Rattle.tree.proofs.Holds.{sums-interval, system-interval, definition-interval}
 use Rattle.model.specs.Lists.{each}
-use Rattle.model.specs.Sites.{Scope, tokens_of, Variable, Definition, variables, definitions, definitions_in, system_in, starts_in, params_of}
+use Rattle.model.specs.Sites.{Scope, whole, tokens_of, Variable, Definition, variables, definitions, definitions_in, system_in, starts_in, params_of}
 use Rattle.model.specs.Words.{whole_of}
 use Rattle.model.specs.Limits.{local_limit, count_limit}
 use Rattle.model.specs.Stands.{sums_of, SumIn, defined, BranchIn}
@@ -38,7 +38,6 @@ use Rattle.settle.specs.Walks as role
 use Rattle.settle.proofs.Moves.{Moved, Moves, Does, plain-does, moved-with, moved_to, moved-both, moved-node, two}
 use Rattle.settle.proofs.Branches.{on, on-on, sum-going}
 use Rattle.settle.proofs.Lines.{system-stays}
-use Rattle.settle.specs.Literals.{SystemLiteral}
 
 module _ (w : ℕ → List ℕ) (m : Syntax.Model) (ok : Faultless w m) (new : (k : ℕ) → NotNew w m k → ⊥) (told : ℕ → Type 0) (decimals : (sc : Scope) (i k : ℕ) (g : Syntax.Gate) (x : Syntax.Action) (r : Syntax.Rate) (n : Syntax.Next) → BranchIn m sc i (Syntax.branch k g x r n) → (b : Bool) (j : ℕ) → scale_of r ≡ Syntax.number b true j → told j) (t t' roots scopes : List ℕ) (trace : ℕ → Point) (first last : ℕ)
     (steps : (i : ℕ) → first ≤ i → i < last → trace (i + 1) ≡ step w (variables m) (definitions m) t i (trace i)) where
@@ -136,8 +135,7 @@ module _ (w : ℕ → List ℕ) (m : Syntax.Model) (ok : Faultless w m) (new : (
 
   -- what the system line's values and counts keep to
   pub record LineFine (s : Syntax.System) : Type 0 where
-    pub literals : SystemLiteral s
-    pub values : (x : Syntax.Start) (b : Bool) (k : ℕ) → In x (starts_in s) → In (Syntax.literal b k) (start_wholes (start_list x)) → InRange (whole_of w b k)
+    pub values : (x : Syntax.Start) (b : Bool) (k : ℕ) → In x (starts_in s) → In (whole b k) (start_wholes (start_list x)) → InRange (whole_of w b k)
     pub counts : (c k : ℕ) (r : Syntax.Starts) → In (Syntax.counted c k r) (starts_in s) → worth 0 (w c) ≤ count_limit
 
   scope-after : (p : Point) (sc : Scope) (b : Syntax.Sums) → (after-definition p sc b).scope ≡ params_at ds (after-definition p sc b).definitions
@@ -168,7 +166,7 @@ module _ (w : ℕ → List ℕ) (m : Syntax.Model) (ok : Faultless w m) (new : (
       let end : k - 1 ≡ h.right = omega arith in
       let one = rw (← same) at (definition-one n q b lo h.left h.holds-first) in
       let x = one-going n g p a inside (same ∙ sc) f lo h.left one u (omega arith) e in
-      let y = system-stays w m ok.definitions told t t' roots scopes trace first last steps (after-definition p p.scope b) s line.literals line.values line.counts (a + count_sums b) (h.left + 1) h.right h.holds-second (omega (arith, x.low)) (omega arith) x.after in
+      let y = system-stays w m ok.definitions told t t' roots scopes trace first last steps (after-definition p p.scope b) s line.values line.counts (a + count_sums b) (h.left + 1) h.right h.holds-second (omega (arith, x.low)) (omega arith) x.after in
       let i = node-left h.node (omega arith) in
       let j : firsts w vs p.seen (sums_uses w vs p.scope b) ≡ firsts w vs p.seen (sums_uses w vs g.params b ++ []) = ap (firsts w vs p.seen) (sym (append-nil (sums_uses w vs p.scope b)) ∙ ap (λ (r : Scope). sums_uses w vs r b ++ []) (sym (same ∙ sc))) in
       let c : p.sums + count_sums b ≡ p.sums + (count_sums b + 0) = omega arith in

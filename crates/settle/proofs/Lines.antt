@@ -10,9 +10,7 @@ use lib.IntN.{ℤ}
 use lib.ListN.{length, get_or}
 use Rattle.value.specs.Range.{InRange}
 use Rattle.word.specs.Number.{worth}
-use Rattle.grammar.specs.Grammar as derived
 use Rattle.grammar.specs.Syntax
-use Rattle.grammar.specs.Syntax.{literal_at, wholes_at, starts_at, start_at, system_at, definitions_at, model_at, syntax_of}
 use Rattle.tree.specs.Node as node
 use Rattle.tree.specs.Node.{field, cell, kind_of, token_of, left_of, third_of, number_kind}
 use Rattle.tree.specs.Table
@@ -20,58 +18,19 @@ use Rattle.tree.specs.Table.{Node, Leaf, One, Two}
 use Rattle.tree.proofs.Cells.{kind-of, token-of, left-of, third_of_lem, node-kind, node-token, node-third}
 use Rattle.tree.proofs.Holds.{wholes-interval, system-interval}
 use Rattle.model.specs.Lists.{each}
-use Rattle.model.specs.Sites.{Variable, Definition, variables, definitions, system_in, system, starts_in}
+use Rattle.model.specs.Sites.{whole, Variable, Definition, variables, definitions, starts_in}
 use Rattle.model.specs.Words.{whole_of}
 use Rattle.model.specs.Limits.{count_limit, definition_limit}
 use Rattle.model.specs.Faults.{start_list, wholes_of, start_wholes}
 use Rattle.model.specs.Resolved
-use Rattle.model.specs.Resolved.{channel_names, definition_number, literal_value, whole_values, start_values, resolve_start}
+use Rattle.model.specs.Resolved.{channel_names, definition_number, whole_values, start_values, resolve_start}
 use Rattle.tables.specs.Settled.{number_cell, Number, Pair}
 use Rattle.tables.specs.Represents.{Wholes, Item, Start, bare, valued, Starts}
 use Rattle.settle.specs.Walks.{Role, role_of, role_at, Point, definition_of, count_of, cell_by, step_by, cell_of, step, SafeBy}
 use Rattle.settle.specs.Walks as role
-use Rattle.settle.specs.Literals.{IsLiteral, AreLiterals, HasLiterals, StartLiteral, SystemLiteral}
 use Rattle.settle.proofs.Moves.{Keeps, Does, plain-does, moved-with, moved-node, leaf, two}
 use Rattle.settle.proofs.Values.{number-of, range-fits}
 use Rattle.settle.proofs.Branches.{definition-fits, fields_fit}
-
--- ---- values of the system line are whole numbers
-
-wholes-literal : (r : derived.Wholes) (k : ℕ) → AreLiterals (wholes_at r k)
-unfolding wholes_at literal_at
-wholes-literal (derived.last_whole derived.whole) k = tt
-wholes-literal (derived.last_whole derived.negative) k = tt
-wholes-literal (derived.next_whole derived.whole r) k = (tt, wholes-literal r _)
-wholes-literal (derived.next_whole derived.negative r) k = (tt, wholes-literal r _)
-
-starts-literal : (s : derived.Starts) (k : ℕ) → HasLiterals (starts_at s k)
-unfolding starts_at
-starts-literal derived.no_starts k = tt
-starts-literal (derived.starts r) k = wholes-literal r (k + 1)
-
-start-literal : (s : derived.Start) (k : ℕ) → StartLiteral (start_at s k)
-unfolding start_at
-start-literal (derived.once s) k = starts-literal s (k + 1)
-start-literal (derived.counted s) k = starts-literal s (k + 3)
-
-line-literal : (s : derived.System) (k : ℕ) → SystemLiteral (system_at s k)
-unfolding system_at
-line-literal (derived.last_start i) k = start-literal i k
-line-literal (derived.next_start i r) k = (start-literal i k, line-literal r _)
-
-definitions-literal : (d : derived.Definitions) (k n : ℕ) → SystemLiteral (system_in (definitions_at d k n))
-unfolding definitions_at system_in
-definitions-literal (derived.last_definition p b s) k n = line-literal s _
-definitions-literal (derived.next_definition p b d) k n = definitions-literal d _ _
-
-model-literal : (m : derived.Model) (k : ℕ) → SystemLiteral (system (model_at m k))
-unfolding model_at system
-model-literal (derived.definitions d) k = definitions-literal d k 0
-model-literal (derived.variable v m) k = model-literal m _
-
-pub system-literal : (m : derived.Model) → SystemLiteral (system (syntax_of m))
-unfolding syntax_of
-system-literal m = model-literal m 0
 
 module _ (w : ℕ → List ℕ) (m : Syntax.Model) (few : length (definitions m) ≤ definition_limit) (told : ℕ → Type 0) (t t' roots scopes : List ℕ) (trace : ℕ → Point) (first last : ℕ)
     (steps : (i : ℕ) → first ≤ i → i < last → trace (i + 1) ≡ step w (variables m) (definitions m) t i (trace i)) (p : Point) where
@@ -98,13 +57,10 @@ module _ (w : ℕ → List ℕ) (m : Syntax.Model) (few : length (definitions m)
       leaf w vs ds cs told t t' roots scopes trace first last steps (role.whole b) l e (λ x. absurd (let z : ◌≡◌ {A = ℕ} 0 1 = cc in omega arith)) (λ x. absurd (let z : ◌≡◌ {A = ℕ} 0 1 = cc in omega arith)) (λ c q n z. refl) (λ c q n z. rw n f)
       (λ i c κ n o u v x d y. number-of node.literal (whole_of w b k) i (range-fits (whole_of w b k) f) (y ∙ ap (λ (j : ℕ). number_cell node.literal (whole_of w b j)) n)) a
 
-  literal-stays : (e : Syntax.Expr) → IsLiteral e → ((b : Bool) (k : ℕ) → e ≡ Syntax.literal b k → InRange (whole_of w b k)) → Stays (Table.Expr t e) (Number t' node.literal (literal_value w vs ds cs e))
-  unfolding Table.Expr literal_value role_of number_kind
-  literal-stays (Syntax.literal false k) l h = whole-stays false node.literal k (omega arith) refl (h false k refl)
-  literal-stays (Syntax.literal true k) l h = whole-stays true node.negative k (omega arith) refl (h true k refl)
-  literal-stays (Syntax.named k) l h = absurd l
-  literal-stays (Syntax.absolute e) l h = absurd l
-  literal-stays (Syntax.binary o e f) l h = absurd l
+  literal-stays : (b : Bool) (k : ℕ) → InRange (whole_of w b k) → Stays (Table.Expr t (Syntax.literal b k)) (Number t' node.literal (whole_of w b k))
+  unfolding Table.Expr role_of number_kind
+  literal-stays false k h = whole-stays false node.literal k (omega arith) refl h
+  literal-stays true k h = whole-stays true node.negative k (omega arith) refl h
 
   wholes-pair : {k : ℕ} (z : ℤ) (zs : List ℤ) → 0 < length zs → Pair t' node.whole (Number t' node.literal z) (Wholes t' zs) k → Wholes t' (z ∷ zs) k
   unfolding Wholes
@@ -113,21 +69,21 @@ module _ (w : ℕ → List ℕ) (m : Syntax.Model) (few : length (definitions m)
 
   wholes-some : (r : Syntax.Wholes) → 0 < length (whole_values w vs ds cs r)
   unfolding whole_values
-  wholes-some (Syntax.last_whole e) = omega arith
-  wholes-some (Syntax.next_whole e r) = omega arith
+  wholes-some (Syntax.last_whole b k) = omega arith
+  wholes-some (Syntax.next_whole b k r) = omega arith
 
-  wholes-stays : (r : Syntax.Wholes) → AreLiterals r → ((b : Bool) (k : ℕ) → In (Syntax.literal b k) (wholes_of r) → InRange (whole_of w b k)) → Stays (Table.Wholes t r) (Wholes t' (whole_values w vs ds cs r))
+  wholes-stays : (r : Syntax.Wholes) → ((b : Bool) (k : ℕ) → In (whole b k) (wholes_of r) → InRange (whole_of w b k)) → Stays (Table.Wholes t r) (Wholes t' (whole_values w vs ds cs r))
   unfolding Table.Wholes wholes_of whole_values Wholes role_of number_kind
-  wholes-stays (Syntax.last_whole e) l h a lo k x u v y = literal-stays e l (λ b j q. h b j (head (sym q))) a lo k x u v y
-  wholes-stays (Syntax.next_whole e r) l h a lo k x u v y =
+  wholes-stays (Syntax.last_whole b j) h a lo k x u v y = literal-stays b j (h b j (head refl)) a lo k x u v y
+  wholes-stays (Syntax.next_whole b j r) h a lo k x u v y =
       moved-with w vs ds cs told t t' roots scopes trace first last
-      (plain-two (omega arith) refl (λ lo k x. (wholes-interval r).low x) (literal-stays e l.0 (λ b j q. h b j (head (sym q)))) (wholes-stays r l.1 (λ b j i. h b j (tail i))) a lo k x u v y)
-      (λ d z. wholes-pair (literal_value w vs ds cs e) (whole_values w vs ds cs r) (wholes-some r) z)
+      (plain-two (omega arith) refl (λ lo k x. (wholes-interval r).low x) (literal-stays b j (h b j (head refl))) (wholes-stays r (λ c n i. h c n (tail i))) a lo k x u v y)
+      (λ d z. wholes-pair (whole_of w b j) (whole_values w vs ds cs r) (wholes-some r) z)
 
   wholes-count : (r : Syntax.Wholes) → Table.count_wholes r ≡ length (whole_values w vs ds cs r)
   unfolding Table.count_wholes whole_values
-  wholes-count (Syntax.last_whole e) = refl
-  wholes-count (Syntax.next_whole e r) = let h = wholes-count r in omega arith
+  wholes-count (Syntax.last_whole b k) = refl
+  wholes-count (Syntax.next_whole b k r) = let h = wholes-count r in omega arith
 
   -- ---- items
 
@@ -182,21 +138,21 @@ module _ (w : ℕ → List ℕ) (m : Syntax.Model) (few : length (definitions m)
   unfolding count_of
   counted_is c e = let d : c + 2 - 2 ≡ c = omega arith in rw (e, d)
 
-  start-stays : (s : Syntax.Start) → StartLiteral s → ((b : Bool) (k : ℕ) → In (Syntax.literal b k) (start_wholes (start_list s)) → InRange (whole_of w b k))
+  start-stays : (s : Syntax.Start) → ((b : Bool) (k : ℕ) → In (whole b k) (start_wholes (start_list s)) → InRange (whole_of w b k))
       → ((c k : ℕ) (r : Syntax.Starts) → s ≡ Syntax.counted c k r → worth 0 (w c) ≤ count_limit) → Stays (Table.Start t s) (Start t' (resolve_start w vs ds cs s))
   unfolding Table.Start start_list start_wholes resolve_start start_values role_of number_kind step_by cell_by count_of
-  start-stays (Syntax.once j Syntax.no_starts) l h c a lo k x u v y =
+  start-stays (Syntax.once j Syntax.no_starts) h c a lo k x u v y =
       leaf w vs ds cs told t t' roots scopes trace first last steps (role.item false) (omega arith) refl (λ x. absurd (let z : ◌≡◌ {A = ℕ} 0 1 = cc in omega arith)) (λ x. absurd (let z : ◌≡◌ {A = ℕ} 0 1 = cc in omega arith)) (λ c q n z. refl) (λ c q n z. tt)
       (λ i c κ n o u v x d y. bare (item_of false 1 [] i c (omega arith) refl κ n o refl (omega arith) y) refl) a lo k x u v y
-  start-stays (Syntax.once j (Syntax.starts r)) l h c a lo k x u v y =
-      valued-stays false 1 r (omega arith) refl refl refl (omega arith) (λ c n. tt) (wholes-stays r l h) a lo k x u v y
-  start-stays (Syntax.counted c j Syntax.no_starts) l h q a lo k x u v y =
+  start-stays (Syntax.once j (Syntax.starts r)) h c a lo k x u v y =
+      valued-stays false 1 r (omega arith) refl refl refl (omega arith) (λ c n. tt) (wholes-stays r h) a lo k x u v y
+  start-stays (Syntax.counted c j Syntax.no_starts) h q a lo k x u v y =
       let e = q c j Syntax.no_starts refl in
       leaf w vs ds cs told t t' roots scopes trace first last steps (role.item true) (omega arith) refl (λ x. absurd (let z : ◌≡◌ {A = ℕ} 0 1 = cc in omega arith)) (λ x. absurd (let z : ◌≡◌ {A = ℕ} 0 1 = cc in omega arith)) (λ d b n z. refl) (λ d b n z. let r : token_of d - 2 ≡ c = omega (arith, x.0) in rw r e)
       (λ i d κ n o u v z f y. bare (item_of true (worth 0 (w c)) [] i d (omega arith) refl κ n o (counted_is c x.0) (omega arith) y) refl) a lo k x.1 u v y
-  start-stays (Syntax.counted c j (Syntax.starts r)) l h q a lo k x u v y =
+  start-stays (Syntax.counted c j (Syntax.starts r)) h q a lo k x u v y =
       let e = q c j (Syntax.starts r) refl in
-      valued-stays true (worth 0 (w c)) r (omega arith) refl refl (counted_is c x.0) e (λ d n. let z : token_of d - 2 ≡ c = omega (arith, x.0) in rw z e) (wholes-stays r l h) a lo k x.1 u v y
+      valued-stays true (worth 0 (w c)) r (omega arith) refl refl (counted_is c x.0) e (λ d n. let z : token_of d - 2 ≡ c = omega (arith, x.0) in rw z e) (wholes-stays r h) a lo k x.1 u v y
 
   starts-pair : {k : ℕ} (s : Resolved.Start) (ss : List Resolved.Start) → 0 < length ss → Pair t' node.system (Start t' s) (Starts t' ss) k → Starts t' (s ∷ ss) k
   unfolding Starts
@@ -208,11 +164,11 @@ module _ (w : ℕ → List ℕ) (m : Syntax.Model) (few : length (definitions m)
   starts-some (Syntax.last_start s) = omega arith
   starts-some (Syntax.next_start s r) = omega arith
 
-  pub system-stays : (s : Syntax.System) → SystemLiteral s → ((x : Syntax.Start) (b : Bool) (k : ℕ) → In x (starts_in s) → In (Syntax.literal b k) (start_wholes (start_list x)) → InRange (whole_of w b k))
+  pub system-stays : (s : Syntax.System) → ((x : Syntax.Start) (b : Bool) (k : ℕ) → In x (starts_in s) → In (whole b k) (start_wholes (start_list x)) → InRange (whole_of w b k))
       → ((c k : ℕ) (r : Syntax.Starts) → In (Syntax.counted c k r) (starts_in s) → worth 0 (w c) ≤ count_limit) → Stays (Table.System t s) (Starts t' (each (λ x. resolve_start w vs ds cs x ∷ []) (starts_in s)))
   unfolding Table.System starts_in each Starts role_of number_kind
-  system-stays (Syntax.last_start s) l h c a lo k x u v y = start-stays s l (λ b j i. h s b j (head refl) i) (λ q j r e. c q j r (head (sym e))) a lo k x u v y
-  system-stays (Syntax.next_start s r) l h c a lo k x u v y =
+  system-stays (Syntax.last_start s) h c a lo k x u v y = start-stays s (λ b j i. h s b j (head refl) i) (λ q j r e. c q j r (head (sym e))) a lo k x u v y
+  system-stays (Syntax.next_start s r) h c a lo k x u v y =
       moved-with w vs ds cs told t t' roots scopes trace first last
-      (plain-two (omega arith) refl (λ lo k x. (system-interval r).low x) (start-stays s l.0 (λ b j i. h s b j (head refl) i) (λ q j r e. c q j r (head (sym e)))) (system-stays r l.1 (λ z b j i. h z b j (tail i)) (λ q j z i. c q j z (tail i))) a lo k x u v y)
+      (plain-two (omega arith) refl (λ lo k x. (system-interval r).low x) (start-stays s (λ b j i. h s b j (head refl) i) (λ q j r e. c q j r (head (sym e)))) (system-stays r (λ z b j i. h z b j (tail i)) (λ q j z i. c q j z (tail i))) a lo k x u v y)
       (λ d z. starts-pair (resolve_start w vs ds cs s) (each (λ x. resolve_start w vs ds cs x ∷ []) (starts_in r)) (starts-some r) z)

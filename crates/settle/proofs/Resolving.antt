@@ -130,17 +130,17 @@ module _ {low high t : List ℕ} {R S N : ℕ} {lists : Lists} (h : Resolvable l
         numbers = x.numbers;
         done = x.done;
         knows = x.knows;
-        safe = node-safe w m t lists.root h.faultless h.new T h.decimals h.literals h.base.world.holds t roots scopes i from to;
-        linked = λ q. let z = node-linked w m t lists.root h.faultless h.new T h.decimals h.literals h.base.world.holds t roots scopes i from to q in (omega (arith, z.0, first-is), z.1, z.2);
+        safe = node-safe w m t lists.root h.faultless h.new T h.decimals h.base.world.holds t roots scopes i from to;
+        linked = λ q. let z = node-linked w m t lists.root h.faultless h.new T h.decimals h.base.world.holds t roots scopes i from to q in (omega (arith, z.0, first-is), z.1, z.2);
         below = λ q.
-            let z = number-below w m t lists.root h.faultless h.new T h.decimals h.literals h.base.world.holds t roots scopes i from to q in
-            let y = sums-after w m t lists.root h.faultless h.new T h.decimals h.literals h.base.world.holds t roots scopes in
+            let z = number-below w m t lists.root h.faultless h.new T h.decimals h.base.world.holds t roots scopes i from to q in
+            let y = sums-after w m t lists.root h.faultless h.new T h.decimals h.base.world.holds t roots scopes in
             let b = numbers-few w m t (lists.root - length vs - length ds + 1) in
             (omega (arith, z.0, b.0, y, line-is, x.roots-size, h.roots-room), omega (arith, z.0, b.0, y, line-is, x.scopes-size, h.scopes-room), z.1);
         seen_few = s;
         heard-room = omega (arith, s, x.heard-size, h.names-room);
         sums-few = omega (arith, c.0, h.base.room);
-        definitions-few = omega (arith, definitions-few w m t lists.root h.faultless h.new T h.decimals h.literals h.base.world.holds t roots scopes i from to, h.base.few);
+        definitions-few = omega (arith, definitions-few w m t lists.root h.faultless h.new T h.decimals h.base.world.holds t roots scopes i from to, h.base.few);
       }
 
   pub progressed : (i : ℕ) (nodes roots scopes heard nodes' roots' scopes' heard' : List ℕ) (met met' : ℕ) (walk r : Walk) → first_node lists ≤ i → i ≤ line_node lists → Progress i nodes roots scopes heard met walk
@@ -155,7 +155,7 @@ module _ {low high t : List ℕ} {R S N : ℕ} {lists : Lists} (h : Resolvable l
       let room : i < length nodes = omega (arith, x.size, root_in h.base.world) in
       let c = cell_of w vs ds t i (point i) in
       let other : (j : ℕ) → (j ≡ i → ⊥) → get_or nodes' j 0 ≡ get_or nodes j 0 = λ j e. ap (λ (l : List ℕ). get_or l j 0) s.nodes-are ∙ get_or-set_other nodes i j c 0 e in
-      let apart = numbers_apart w m t lists.root h.faultless h.new T h.decimals h.literals h.base.world.holds t roots scopes in
+      let apart = numbers_apart w m t lists.root h.faultless h.new T h.decimals h.base.world.holds t roots scopes in
       record {
         size = ap length s.nodes-are ∙ length-set nodes i c ∙ x.size;
         roots-size = ap length s.roots-are ∙ marked-size (get_or t i 0) roots (i - 1) ∙ x.roots-size;
@@ -211,8 +211,8 @@ module _ {low high t : List ℕ} {R S N : ℕ} {lists : Lists} (h : Resolvable l
 
   pub line-inside : (lists.variables ≤ lists.root) × (lists.definitions ≤ lists.root - lists.variables) × (first_node lists ≤ line_node lists + 1)
   line-inside =
-      let b = definitions-below w m t lists.root h.faultless h.new (Told low w) h.decimals h.literals h.base.world.holds in
-      let z = line_after w m t lists.root h.faultless h.new (Told low w) h.decimals h.literals h.base.world.holds t t t in
+      let b = definitions-below w m t lists.root h.faultless h.new (Told low w) h.decimals h.base.world.holds in
+      let z = line_after w m t lists.root h.faultless h.new (Told low w) h.decimals h.base.world.holds t t t in
       (omega (arith, vs-few h.base.world, first-is), omega (arith, b, first-is, h.base.world.gathered.definitions-are), omega (arith, z, first-is, line-is))
 
   -- ---- at the end
@@ -222,13 +222,13 @@ module _ {low high t : List ℕ} {R S N : ℕ} {lists : Lists} (h : Resolvable l
       let z = line-is in
       let e : i ≡ lists.root - length vs - length ds + 1 = omega arith in
       let y = rw e at x in
-      let a = sums-after w m t lists.root h.faultless h.new T h.decimals h.literals h.base.world.holds nodes roots scopes in
-      let b = names-after w m t lists.root h.faultless h.new T h.decimals h.literals h.base.world.holds nodes roots scopes in
+      let a = sums-after w m t lists.root h.faultless h.new T h.decimals h.base.world.holds nodes roots scopes in
+      let b = names-after w m t lists.root h.faultless h.new T h.decimals h.base.world.holds nodes roots scopes in
       let c = numbers-few w m t (lists.root - length vs - length ds + 1) in
       let sums : walk.sums ≡ count_definitions ds = y.knows.sums ∙ a in
       let channels : met ≡ length (channel_names w vs ds) = y.knows.channels ∙ ap length b in
       represents-as refl first-is (sym h.base.world.gathered.definitions-are) (sym sums) (sym channels)
-      (represented w m t lists.root h.faultless h.new T h.decimals h.literals h.base.world.holds nodes roots scopes h.base.room
+      (represented w m t lists.root h.faultless h.new T h.decimals h.base.world.holds nodes roots scopes h.base.room
       (λ j f l. y.done j (omega (arith, first-is)) l) (λ j f l r. y.sums j (omega (arith, first-is)) l r) (λ j l. y.ahead j l)
       (omega (arith, c.0, a, x.roots-size, h.roots-room)) (omega (arith, c.0, a, x.scopes-size, h.scopes-room)))
 
@@ -249,10 +249,10 @@ module _ {low high t : List ℕ} {R S N : ℕ} {lists : Lists} (h : Resolvable l
   unfolding point_at
   point-same i l =
       let T = Told low w in
-      let b = definitions-below w m t lists.root h.faultless h.new T h.decimals h.literals h.base.world.holds in
-      let z = line_after w m t lists.root h.faultless h.new T h.decimals h.literals h.base.world.holds t t t in
+      let b = definitions-below w m t lists.root h.faultless h.new T h.decimals h.base.world.holds in
+      let z = line_after w m t lists.root h.faultless h.new T h.decimals h.base.world.holds t t t in
       walked-alike w vs ds t table (length vs) (last_node + 1) (λ j u. table_at j (omega arith))
-      (λ j f u r. (node-linked w m t lists.root h.faultless h.new T h.decimals h.literals h.base.world.holds t t t j f (omega arith) r).1)
+      (λ j f u r. (node-linked w m t lists.root h.faultless h.new T h.decimals h.base.world.holds t t t j f (omega arith) r).1)
       (i - length vs) (begun w vs ds) (omega arith)
 
   node_of : (n : ℕ) → (i : ℕ) × (length vs ≤ i) × (i < last_node + 1) × (role_at t i ≡ role.sum) × (token_of (get_or t i 0) ≡ n) → SumNode table (length vs) last_node n
@@ -268,7 +268,7 @@ module _ {low high t : List ℕ} {R S N : ℕ} {lists : Lists} (h : Resolvable l
       let z = line-is in
       let e : i ≡ last_node + 1 = omega arith in
       let y = rw e at x in
-      let a = sums-after w m t r h.faultless h.new T h.decimals h.literals h.base.world.holds nodes roots scopes in
+      let a = sums-after w m t r h.faultless h.new T h.decimals h.base.world.holds nodes roots scopes in
       let c = numbers-few w m t (last_node + 1) in
       let sums : walk.sums ≡ count_definitions ds = y.knows.sums ∙ a in
       let fit : walk.sums ≤ r + 1 = omega (arith, c.0, sums, a) in
@@ -289,7 +289,7 @@ module _ {low high t : List ℕ} {R S N : ℕ} {lists : Lists} (h : Resolvable l
         after = λ j f l. y.ahead j (omega arith) ∙ sym (table_at j l);
         roots-fit = omega (arith, x.roots-size, h.roots-room);
         scopes-fit = omega (arith, x.scopes-size, h.scopes-room);
-        numbered = λ n l. node_of n (sum-node w m t r h.faultless h.new T h.decimals h.literals h.base.world.holds nodes roots scopes h.base.room
+        numbered = λ n l. node_of n (sum-node w m t r h.faultless h.new T h.decimals h.base.world.holds nodes roots scopes h.base.room
             (λ j f l. y.done j (omega (arith, first-is)) l) (λ j f l r. y.sums j (omega (arith, first-is)) l r) (λ j l. y.ahead j l)
             (omega (arith, c.0, a, x.roots-size, h.roots-room)) (omega (arith, c.0, a, x.scopes-size, h.scopes-room)) n (omega arith));
         branches = λ j f l k. let g = table_at j (omega arith) in rw g (y.sums j (omega (arith, first-is)) (omega arith) (rw g at k)).0;

@@ -27,7 +27,6 @@ use Rattle.settle.specs.Walks.{Role, role_at, Point, params_at, step_by, cell_of
 use Rattle.settle.specs.Walks as role
 use Rattle.settle.proofs.Moves.{Safe, Done, SumAt, Mark, marked-at, Moved}
 use Rattle.settle.proofs.Heard.{met-length}
-use Rattle.settle.specs.Literals.{SystemLiteral}
 use Rattle.settle.proofs.Definitions.{Held, held_at, after, LineFine, Ends, definitions-going}
 
 -- the definitions of a model stand after its variables' numbers and below the nodes of the variables
@@ -204,7 +203,7 @@ module _ (w : ℕ → List ℕ) (m : Syntax.Model) (t : List ℕ) where
       let e : j - first ≡ i - first + (j - i) = omega arith in
       rw e (definitions-more w vs ds t first (i - first) (j - i) (begun w vs ds))
 
-  module _ (root : ℕ) (ok : Faultless w m) (new : (k : ℕ) → NotNew w m k → ⊥) (told : ℕ → Type 0) (decimals : (sc : Scope) (i k : ℕ) (g : Syntax.Gate) (x : Syntax.Action) (r : Syntax.Rate) (n : Syntax.Next) → BranchIn m sc i (Syntax.branch k g x r n) → (b : Bool) (j : ℕ) → scale_of r ≡ Syntax.number b true j → told j) (literals : SystemLiteral (system m)) (h : Table.Model t m 0 root) where
+  module _ (root : ℕ) (ok : Faultless w m) (new : (k : ℕ) → NotNew w m k → ⊥) (told : ℕ → Type 0) (decimals : (sc : Scope) (i k : ℕ) (g : Syntax.Gate) (x : Syntax.Action) (r : Syntax.Rate) (n : Syntax.Next) → BranchIn m sc i (Syntax.branch k g x r n) → (b : Bool) (j : ℕ) → scale_of r ≡ Syntax.number b true j → told j) (h : Table.Model t m 0 root) where
     -- the system line's node, and the first after it
     abbrev pub line : ℕ
     line = root - length vs - length ds
@@ -224,7 +223,7 @@ module _ (w : ℕ → List ℕ) (m : Syntax.Model) (t : List ℕ) where
       ends =
           let b = below t m 0 root h in
           let e : 0 + length vs ≡ length vs = omega arith in
-          let fine : LineFine w m ok new told decimals t t' roots scopes trace first last (λ i l u. steps_on i l) (system m) = record { literals = literals; values = λ x b k i j. ok.values x b k i j; counts = λ c k r i. ok.counts c k r i } in
+          let fine : LineFine w m ok new told decimals t t' roots scopes trace first last (λ i l u. steps_on i l) (system m) = record { values = λ x b k i j. ok.values x b k i j; counts = λ c k r i. ok.counts c k r i } in
           let all = definitions-going w m ok new told decimals t t' roots scopes trace first last (λ i l u. steps_on i l) b.definitions (begun w vs ds) 0 first (root - length vs) (rw e at b.holds)
           (λ i. let z : 0 + i ≡ i = omega arith in ap (params_at ds) z ∙ ap (λ (es : List Definition). params_at es i) b.lists) refl (λ e i. subst (λ (es : List Definition). In e es) (sym b.lists) i)
           (subst (λ (es : List Definition). DefinitionsFrom es 0) b.lists ok.numbering) (subst (λ (s : Syntax.System). LineFine w m ok new told decimals t t' roots scopes trace first last (λ i l u. steps_on i l) s) b.line fine) (omega arith) (omega (arith, ap length b.lists)) trace-begun in

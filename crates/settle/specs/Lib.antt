@@ -1,5 +1,4 @@
 pub mod Walks
-pub mod Literals
 pub mod Kids
 pub mod Places
 pub mod Settles

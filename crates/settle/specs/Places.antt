@@ -9,7 +9,6 @@ use Rattle.grammar.specs.Syntax
 use Rattle.tree.specs.Node as node
 use Rattle.tree.specs.Node.{field, cell, kind_of, token_of, left_of, third_of, number_kind}
 use Rattle.model.specs.Sites.{Variable, Definition, variables, definitions}
-use Rattle.model.specs.Sites.{system}
 use Rattle.model.specs.Stands.{BranchIn}
 use Rattle.model.specs.Faults.{NotNew}
 use Rattle.model.specs.Faultless.{scale_of, Faultless}
@@ -23,7 +22,6 @@ use Rattle.names.specs.declared.scope.Scope.{Scope}
 use Rattle.names.specs.Lists.{packed}
 use Rattle.names.specs.Placed.{Named, Fits}
 use Rattle.names.specs.Settings.{World, Scoped}
-use Rattle.settle.specs.Literals.{SystemLiteral}
 use Rattle.settle.specs.Kids.{Hung}
 use Rattle.settle.specs.declared.Walk.{Walk}
 use Rattle.settle.specs.Walks.{name, ending, item, role_of, Point, NumberSafe, SafeBy, step_by, value_cell, cell_by}
@@ -233,7 +231,6 @@ pub record Resolvable (low high t : List ℕ) (roots scopes names : ℕ) (lists 
   pub faultless : Faultless base.world.word base.world.model
   pub new : (k : ℕ) → NotNew base.world.word base.world.model k → ⊥
   pub decimals : (sc : List ℕ) (i k : ℕ) (g : Syntax.Gate) (x : Syntax.Action) (r : Syntax.Rate) (n : Syntax.Next) → BranchIn base.world.model sc i (Syntax.branch k g x r n) → (b : Bool) (j : ℕ) → scale_of r ≡ Syntax.number b true j → Told low base.world.word j
-  pub literals : SystemLiteral (system base.world.model)
   pub roots-room : lists.root < roots
   pub scopes-room : lists.root < scopes
   pub names-room : lists.root < names

@@ -270,8 +270,8 @@ module _ (s : ℕ → Bool) (t : List ℕ) where
 
   wholes-lies : (x : Syntax.Wholes) → Lies (Table.Wholes t x) None
   unfolding Table.Wholes earlier_of
-  wholes-lies (Syntax.last_whole e) = expr-lies e
-  wholes-lies (Syntax.next_whole e r) = lies-two (refl, refl, refl) (expr-lies e) (wholes-lies r)
+  wholes-lies (Syntax.last_whole b n) = expr-lies (Syntax.literal b n)
+  wholes-lies (Syntax.next_whole b n r) = lies-two (refl, refl, refl) (expr-lies (Syntax.literal b n)) (wholes-lies r)
 
   start-lies : (x : Syntax.Start) → Lies (Table.Start t x) None
   unfolding Table.Start

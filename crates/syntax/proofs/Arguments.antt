@@ -46,7 +46,7 @@ pub record Arguments {A B : Type 0} (x : List Sym) (more : Sym) (flat_a : A → 
   pub interval : (b : B) (at : ℕ) → Interval 1 61 (λ s. holds s b at)
 
 pub wholes : Arguments (Whole' ∷ []) MoreWholes flat_whole written_wholes literal_at (λ w at. count_wholes (wholes_at w at)) (λ s w at. Table.Wholes s (wholes_at w at)) node.whole
-unfolding flat_wholes written_wholes wholes_at count_wholes Table.Wholes table rows_of is_may
+unfolding flat_wholes written_wholes wholes_at literal_at count_wholes Table.Wholes table rows_of is_may
 wholes = record { last = Grammar.last_whole; next = Grammar.next_whole; may = refl; row = refl; text-last = λ a us. refl; text-next = λ a b us. refl; count-last = λ a at. refl; count-next = λ a b at. refl; shows-last = λ a s at lo k h. h; shows-next = λ a b s at lo k h. h; ends = λ a. span-place (wide-whole a); interval = λ b at. wholes-interval (wholes_at b at) }
 
 pub exprs : Arguments an_expr MoreArgs flat_expr closed_exprs expr_at (λ e at. count_exprs (exprs_at e at)) (λ s e at. Table.Exprs s (exprs_at e at)) node.argument

@@ -170,8 +170,8 @@ module _ (t t' : List ℕ) where
 
   wholes : (w : Syntax.Wholes) → Alike (Table.Wholes t w) (Table.Wholes t' w)
   unfolding Table.Wholes
-  wholes (Syntax.last_whole e) = expr e
-  wholes (Syntax.next_whole e r) = two (expr e) (wholes r)
+  wholes (Syntax.last_whole b n) = expr (Syntax.literal b n)
+  wholes (Syntax.next_whole b n r) = two (expr (Syntax.literal b n)) (wholes r)
 
   start : (s : Syntax.Start) → Alike (Table.Start t s) (Table.Start t' s)
   unfolding Table.Start

@@ -150,8 +150,8 @@ definition-interval n (Syntax.params (Syntax.names f m)) b = beside_two (one ref
 
 pub wholes-interval : (w : Syntax.Wholes) → Interval 1 61 (λ t. Table.Wholes t w)
 unfolding Table.Wholes
-wholes-interval (Syntax.last_whole e) = wider (expr-interval e) refl
-wholes-interval (Syntax.next_whole e r) = two refl (expr-interval e) (wholes-interval r)
+wholes-interval (Syntax.last_whole b n) = wider (expr-interval (Syntax.literal b n)) refl
+wholes-interval (Syntax.next_whole b n r) = two refl (expr-interval (Syntax.literal b n)) (wholes-interval r)
 
 pub start-interval : (s : Syntax.Start) → Interval 57 60 (λ t. Table.Start t s)
 unfolding Table.Start

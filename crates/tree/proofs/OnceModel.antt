@@ -83,10 +83,10 @@ module _ (t : List ℕ) where
 
   pub wholes-once : (x y : Syntax.Wholes) → Once (Table.Wholes t x) (Table.Wholes t y) (x ≡ y)
   unfolding Table.Wholes
-  wholes-once (Syntax.last_whole e) (Syntax.last_whole e') lo lo' k h g = let z = expr-once t e e' lo lo' k h g in (ap Syntax.last_whole z.0, z.1)
-  wholes-once (Syntax.last_whole e) (Syntax.next_whole e' r') lo lo' k h g = absurd (omega (arith, (expr-interval e).to h, root g.node))
-  wholes-once (Syntax.next_whole e r) (Syntax.last_whole e') lo lo' k h g = absurd (omega (arith, root h.node, (expr-interval e').to g))
-  wholes-once (Syntax.next_whole e r) (Syntax.next_whole e' r') lo lo' k h g = let z = once-two refl (expr-once t e e') (wholes-once r r') h g in (cc, z.4)
+  wholes-once (Syntax.last_whole b n) (Syntax.last_whole b' n') lo lo' k h g = let z = expr-once t (Syntax.literal b n) (Syntax.literal b' n') lo lo' k h g in (cc, z.1)
+  wholes-once (Syntax.last_whole b n) (Syntax.next_whole b' n' r') lo lo' k h g = absurd (omega (arith, (expr-interval (Syntax.literal b n)).to h, root g.node))
+  wholes-once (Syntax.next_whole b n r) (Syntax.last_whole b' n') lo lo' k h g = absurd (omega (arith, root h.node, (expr-interval (Syntax.literal b' n')).to g))
+  wholes-once (Syntax.next_whole b n r) (Syntax.next_whole b' n' r') lo lo' k h g = let z = once-two refl (expr-once t (Syntax.literal b n) (Syntax.literal b' n')) (wholes-once r r') h g in (cc, z.4)
 
   pub start-once : (x y : Syntax.Start) → Once (Table.Start t x) (Table.Start t y) (x ≡ y)
   unfolding Table.Start

@@ -54,8 +54,8 @@ count_exprs (Syntax.last_expr e) = 1
 count_exprs (Syntax.next_expr e r) = count_exprs r + 1
 
 unfoldable pub count_wholes : Syntax.Wholes → ℕ
-count_wholes (Syntax.last_whole e) = 1
-count_wholes (Syntax.next_whole e r) = count_wholes r + 1
+count_wholes (Syntax.last_whole b k) = 1
+count_wholes (Syntax.next_whole b k r) = count_wholes r + 1
 
 module _ (t : List ℕ) where
   unfoldable pub Expr : Syntax.Expr → ℕ → ℕ → Type 0
@@ -150,8 +150,8 @@ module _ (t : List ℕ) where
   Definition n (Syntax.params (Syntax.names f m)) b lo k = (f ≡ n + 2) × (0 < m) × One t node.definition n m (Sums b) lo k
 
   unfoldable pub Wholes : Syntax.Wholes → ℕ → ℕ → Type 0
-  Wholes (Syntax.last_whole e) = Expr e
-  Wholes (Syntax.next_whole e r) = Two t node.whole 0 0 (Expr e) (Wholes r)
+  Wholes (Syntax.last_whole b n) = Expr (Syntax.literal b n)
+  Wholes (Syntax.next_whole b n r) = Two t node.whole 0 0 (Expr (Syntax.literal b n)) (Wholes r)
 
   -- an item of the system line: its name, and how many values; a count is the second token before the name
   unfoldable pub Start : Syntax.Start → ℕ → ℕ → Type 0

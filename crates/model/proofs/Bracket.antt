@@ -20,7 +20,7 @@ use Rattle.grammar.specs.Syntax
 use Rattle.grammar.specs.Syntax.{wide, sets_at, count_names, names_at, channel_at, action_at, branch_at, syntax_of}
 use Rattle.grammar.proofs.Wide.{wide-sets, wide-channel, wide-gate}
 use Rattle.model.specs.Lists.{every_other}
-use Rattle.model.specs.Sites.{Scope, Site, whole, value, scale, bound, branch, call, expr_sites, exprs_sites, set_sites, cond_sites, gate_sites, scale_sites, rate_sites, is_lone, item_sites, channel_sites, values_sites, sets_sites, count_sets, tokens_of, action_sites, args_sites}
+use Rattle.model.specs.Sites.{Scope, Site, whole, value, scale, bound, branch, call, expr_sites, exprs_sites, set_sites, cond_sites, gate_sites, number_sites, scale_sites, rate_sites, is_lone, item_sites, channel_sites, values_sites, sets_sites, count_sets, tokens_of, action_sites, args_sites}
 use Rattle.model.specs.Words.{word_of}
 use Rattle.model.specs.Stands.{BranchIn, SiteIn, beginning, in_gate, in_action, in_rate, calling, in_call}
 use Rattle.model.specs.Questions.{Yes5}
@@ -81,10 +81,14 @@ simple-gate (Syntax.gate c) = simple-cond c
 one : (x : Site) → Simple x → AllSimple (x ∷ [])
 one x h y i = subst (λ (z : Site). Simple z) (sym (eq_of_singleton i)) h
 
+simple-number : (v : Syntax.Number) → AllSimple (number_sites v)
+unfolding number_sites
+simple-number (Syntax.number b false k) = one _ tt
+simple-number (Syntax.number b true k) = λ x i. absurd (nowhere i)
+
 simple-scale : (s : Syntax.Scale) → AllSimple (scale_sites s)
 unfolding scale_sites
-simple-scale (Syntax.number b false k) = one _ tt
-simple-scale (Syntax.number b true k) = λ x i. absurd (nowhere i)
+simple-scale (Syntax.fixed v) = simple-number v
 simple-scale (Syntax.named_scale k) = one _ tt
 
 simple-rate : (r : Syntax.Rate) → AllSimple (rate_sites r)

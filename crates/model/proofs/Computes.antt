@@ -62,7 +62,7 @@ tree_of d = syntax_of d
 
 -- the sites of a tree
 unfoldable pub sites_of : (ℕ → List ℕ) → Syntax.Model → List Sites.Sited
-unfolding Lists.each Lists.when Lists.any Lists.every_other Lists.earlier Lists.least Sites.expr_sites Sites.exprs_sites Sites.set_sites Sites.cond_sites Sites.gate_sites Sites.scale_sites Sites.rate_sites
+unfolding Lists.each Lists.when Lists.any Lists.every_other Lists.earlier Lists.least Sites.expr_sites Sites.exprs_sites Sites.set_sites Sites.cond_sites Sites.gate_sites Sites.number_sites Sites.scale_sites Sites.rate_sites
     Sites.is_lone Sites.item_sites Sites.channel_sites Sites.values_sites Sites.sets_sites Sites.count_sets Sites.tokens_of Sites.action_sites Sites.bindings Sites.count_exprs Sites.count_args Sites.args_sites
     Sites.within Sites.branch_sites Sites.next_sites Sites.branches_sites Sites.sum_sites Sites.cont_sites Sites.conts_sites Sites.sums_sites Sites.params_of Sites.definitions_in Sites.system_in
     Sites.variables Sites.definitions Sites.system Sites.starts_in Sites.starts Sites.definition_sites Sites.sites Sites.over_sites Sites.names Sites.titles

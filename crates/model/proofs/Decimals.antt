@@ -31,7 +31,7 @@ use Rattle.model.specs.Faultless.{scale_of}
 impossible : {A : Type 0} {b c : Bool} {j k : ℕ} → Syntax.number b false j ≡ Syntax.number c true k → A
 impossible e = absurd (let z : ◌≡◌ {A = ℕ} 0 1 = cc in omega arith)
 
-named-no : {A : Type 0} {c : Bool} {j k : ℕ} → Syntax.named_scale j ≡ Syntax.number c true k → A
+named-no : {A : Type 0} {j : ℕ} {v : Syntax.Number} → Syntax.named_scale j ≡ Syntax.fixed v → A
 named-no e = absurd (let z : ◌≡◌ {A = ℕ} 0 1 = cc in omega arith)
 
 module _ (ts : List ℕ) where
@@ -42,12 +42,12 @@ module _ (ts : List ℕ) where
   number-decimal derived.decimal k us b j e q = let d : k ≡ j = cc in rw (← d) (token-is ts k e)
   number-decimal derived.negative_decimal k us b j e q = let d : k + 1 ≡ j = cc in rw (← d) (token-is ts (k + 1) (next-token ts k e))
 
-  scale-decimal : (s : derived.Scale) (k : ℕ) (us : List ℕ) (b : Bool) (j : ℕ) → drop k ts ≡ flat_scale s us → scale_at s k ≡ Syntax.number b true j → get_elem? ts j ≡ some kind.decimal
+  scale-decimal : (s : derived.Scale) (k : ℕ) (us : List ℕ) (b : Bool) (j : ℕ) → drop k ts ≡ flat_scale s us → scale_at s k ≡ Syntax.fixed (Syntax.number b true j) → get_elem? ts j ≡ some kind.decimal
   unfolding flat_scale scale_at
-  scale-decimal (derived.fixed n) k us b j e q = number-decimal n k us b j e q
+  scale-decimal (derived.fixed n) k us b j e q = number-decimal n k us b j e cc
   scale-decimal derived.named k us b j e q = named-no q
 
-  rate-decimal : (r : derived.Rate) (k : ℕ) (us : List ℕ) (b : Bool) (j : ℕ) → drop k ts ≡ flat_rate r us → scale_of (rate_at r k) ≡ Syntax.number b true j → get_elem? ts j ≡ some kind.decimal
+  rate-decimal : (r : derived.Rate) (k : ℕ) (us : List ℕ) (b : Bool) (j : ℕ) → drop k ts ≡ flat_rate r us → scale_of (rate_at r k) ≡ Syntax.fixed (Syntax.number b true j) → get_elem? ts j ≡ some kind.decimal
   unfolding flat_rate rate_at
   rate-decimal (derived.plain s) k us b j e q = scale-decimal s k us b j e q
   rate-decimal (derived.scaled s a) k us b j e q = scale-decimal s k _ b j e q
@@ -55,7 +55,7 @@ module _ (ts : List ℕ) where
   rate_in : Syntax.Branch → Syntax.Rate
   rate_in (Syntax.branch k g a r x) = r
 
-  prefix-decimal : (p : derived.Prefix) (k n : ℕ) (us : List ℕ) (b : Bool) (j : ℕ) → drop k ts ≡ flat_prefix p us → scale_of (rate_in (branch_at p k n)) ≡ Syntax.number b true j → get_elem? ts j ≡ some kind.decimal
+  prefix-decimal : (p : derived.Prefix) (k n : ℕ) (us : List ℕ) (b : Bool) (j : ℕ) → drop k ts ≡ flat_prefix p us → scale_of (rate_in (branch_at p k n)) ≡ Syntax.fixed (Syntax.number b true j) → get_elem? ts j ≡ some kind.decimal
   unfolding flat_prefix branch_at rate_in
   prefix-decimal (derived.prefix g a r x) k n us b j e q =
       let e₁ = next-token ts (k + wide (flat_gate g)) (past ts k _ (wide-gate g) e) in
@@ -63,13 +63,13 @@ module _ (ts : List ℕ) where
       rate-decimal r _ _ b j e₂ q
 
   -- of a rate
-  pub decimal-rate : {k : ℕ} {g : Syntax.Gate} {a : Syntax.Action} {r : Syntax.Rate} {x : Syntax.Next} (b : Bool) (j : ℕ) → Written ts (Syntax.branch k g a r x) → scale_of r ≡ Syntax.number b true j → get_elem? ts j ≡ some kind.decimal
+  pub decimal-rate : {k : ℕ} {g : Syntax.Gate} {a : Syntax.Action} {r : Syntax.Rate} {x : Syntax.Next} (b : Bool) (j : ℕ) → Written ts (Syntax.branch k g a r x) → scale_of r ≡ Syntax.fixed (Syntax.number b true j) → get_elem? ts j ≡ some kind.decimal
   unfolding rate_in
   decimal-rate b j h q =
       prefix-decimal h.prefix h.place h.number h.rest b j h.text (ap (λ (y : Syntax.Branch). scale_of (rate_in y)) (sym h.tree) ∙ q)
 
   -- of a variable
-  pub decimal-variable : {s : Syntax.Scale} (b : Bool) (j : ℕ) → NumberWritten ts s → s ≡ Syntax.number b true j → get_elem? ts j ≡ some kind.decimal
+  pub decimal-variable : {v : Syntax.Number} (b : Bool) (j : ℕ) → NumberWritten ts v → v ≡ Syntax.number b true j → get_elem? ts j ≡ some kind.decimal
   decimal-variable b j h q = number-decimal h.number h.place h.rest b j h.text (sym h.tree ∙ q)
 
 pub kind-mark : {k : ℕ} (ms : List Mark) (j : ℕ) → get_elem? (kinds_of ms) j ≡ some k → (t : Mark) × (get_elem? ms j ≡ some t) × (t.kind ≡ k)

@@ -31,7 +31,7 @@ use Rattle.token.specs.Token.{Mark, tokens}
 use Rattle.token.specs.Contents.{bytes_of, before_point, after_point, few_digits}
 use Rattle.grammar.specs.Syntax
 use Rattle.model.specs.Lists.{each, when}
-use Rattle.model.specs.Sites.{Scope, Site, whole, value, scale, bound, branch, call, scale_sites, Variable, variables, definitions, starts, names, titles, over_sites}
+use Rattle.model.specs.Sites.{Scope, Site, whole, value, scale, bound, branch, call, number_sites, Variable, variables, definitions, starts, names, titles, over_sites}
 use Rattle.model.specs.Words.{word_of, whole_of}
 use Rattle.model.specs.Limits.{count_limit, variable_limit, definition_limit, parameter_limit, local_limit, branch_limit, is_missing, word_beyond, words_beyond, whole_beyond, site_beyond, variable_beyond, definition_beyond, wholes_beyond, starts_beyond, start_beyond, tree_beyond, beyond}
 use Rattle.model.specs.Stands.{SiteIn}
@@ -135,11 +135,10 @@ module _ (text : List ℕ) where
 
     -- ---- outside definitions
 
-    variable-beyond : {k : ℕ} (v : Variable) (n : Syntax.Scale) → v.number ≡ n → In v (variables m) → In k (each (site_beyond w []) (scale_sites n)) → Beyond text m k
-    unfolding scale_sites each site_beyond
+    variable-beyond : {k : ℕ} (v : Variable) (n : Syntax.Number) → v.number ≡ n → In v (variables m) → In k (each (site_beyond w []) (number_sites n)) → Beyond text m k
+    unfolding number_sites each site_beyond
     variable-beyond v (Syntax.number b false j) e h i = whole-beyond b j (in_variable h e) (rw (append-nil (whole_beyond w b j)) at i)
     variable-beyond v (Syntax.number b true j) e h i = absurd (nowhere i)
-    variable-beyond v (Syntax.named_scale j) e h i = absurd (nowhere i)
 
     wholes-beyond : {k : ℕ} {P : Type 0} (r : Syntax.Wholes) → ((b : Bool) (j : ℕ) → In (whole b j) (wholes_of r) → In k (whole_beyond w b j) → P) → In k (wholes_beyond w r) → P
     unfolding wholes_beyond wholes_of
@@ -270,7 +269,7 @@ module _ (text : List ℕ) where
     start-whole (Syntax.counted c j s) i h = right (when (ltb count_limit (worth 0 (w c))) c) (starts-whole s i h)
 
     variable-whole : (v : Variable) (b : Bool) (k : ℕ) → v.number ≡ Syntax.number b false k → (InRange (whole_of w b k) → ⊥) → In k (variable_beyond w v)
-    unfolding variable_beyond scale_sites each site_beyond
+    unfolding variable_beyond number_sites each site_beyond
     variable-whole v b k e h = rw e (left [] (beyond-whole b k h))
 
     whole-listed : {b : Bool} {k : ℕ} → WholeIn w m b k → (InRange (whole_of w b k) → ⊥) → In k (beyond text m)

@@ -17,7 +17,7 @@ use Rattle.grammar.specs.Syntax
 use Rattle.grammar.specs.Syntax.{wide, literal_at, number_at, expr_at, terms_at, term_at, factors_at, atom_at, exprs_at, args_at, part_at, parts_at, set_at, test_at, ands_at, conjunction_at, ors_at, cond_at, scale_at, rate_at, values_at, sets_at, count_names, names_at, channel_at, action_at, gate_at}
 use Rattle.grammar.proofs.Wide.{wide-whole, wide-number, wide-expr, wide-terms, wide-term, wide-factors, wide-atom, wide-exprs, wide-args, wide-part, wide-parts, wide-set, wide_test, wide-ands, wide-conjunction, wide-ors, wide-cond, wide-scale, wide-rate, wide-values, wide-sets, wide-names, wide-channel, wide-action, wide-gate}
 use Rattle.model.specs.Lists.{every_other}
-use Rattle.model.specs.Sites.{Site, whole, value, scale, bound, branch, call, expr_sites, exprs_sites, set_sites, cond_sites, gate_sites, scale_sites, rate_sites, is_lone, item_sites, channel_sites, values_sites, sets_sites, count_sets, tokens_of, action_sites, args_sites}
+use Rattle.model.specs.Sites.{Site, whole, value, scale, bound, branch, call, expr_sites, exprs_sites, set_sites, cond_sites, gate_sites, number_sites, scale_sites, rate_sites, is_lone, item_sites, channel_sites, values_sites, sets_sites, count_sets, tokens_of, action_sites, args_sites}
 
 -- l: where the part, or the text, ends
 module _ (l : ℕ) where
@@ -154,8 +154,8 @@ module _ (l : ℕ) where
 
   -- ---- rates
 
-  pub number-before : (v : derived.Number) (k : ℕ) → k + wide (flat_number v) ≤ l → AllBefore (scale_sites (number_at v k))
-  unfolding number_at scale_sites
+  pub number-before : (v : derived.Number) (k : ℕ) → k + wide (flat_number v) ≤ l → AllBefore (number_sites (number_at v k))
+  unfolding number_at number_sites
   number-before (derived.integer derived.whole) k h = one (whole false k) (omega (arith, (wide-number (derived.integer derived.whole)).width, (wide-whole derived.whole).width))
   number-before (derived.integer derived.negative) k h = one (whole true (k + 1)) (omega (arith, (wide-number (derived.integer derived.negative)).width, (wide-whole derived.negative).width))
   number-before derived.decimal k h = nothing

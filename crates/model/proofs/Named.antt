@@ -18,7 +18,6 @@ unfolding is_channel_name is_value
 opposite (local i) = refl
 opposite (variable (Syntax.number b true k)) = refl
 opposite (variable (Syntax.number b false k)) = refl
-opposite (variable (Syntax.named_scale k)) = refl
 opposite nothing = refl
 
 flip : (b : Bool) → not b ≡ true → b ≡ false

@@ -1,5 +1,5 @@
 -- What opening a text gives is a well-formed model that starts with at most 256 processes. From the answers to questions 5 to 10.
-use mathlib.Core.Path.{◌≡◌, refl, sym, subst}
+use mathlib.Core.Path.{◌≡◌, refl, sym, ◌∙◌, ap, subst}
 use mathlib.Core.List.Memᴰ.{head}
 use mathlib.Core.List.{List, ◌++◌, Memᴰ as In}
 use mathlib.Core.Bool.{Bool, true, false}
@@ -18,7 +18,7 @@ use Rattle.word.specs.Number.{whole_digits, fraction_digits}
 use Rattle.token.specs.Kind as kind
 use Rattle.token.specs.Token.{tokens, kinds_of}
 use Rattle.grammar.specs.Syntax
-use Rattle.model.specs.Sites.{Scope, Site, whole, value, scale, bound, branch, call, expr_sites, scale_sites, rate_sites, Variable, variables, Definition, definitions, titles}
+use Rattle.model.specs.Sites.{Scope, Site, whole, value, scale, bound, branch, call, expr_sites, number_sites, scale_sites, rate_sites, Variable, variables, Definition, definitions, titles}
 use Rattle.model.specs.Words.{word_of, whole_of, decimal_of}
 use Rattle.model.specs.Limits.{count_limit, definition_limit, parameter_limit, local_limit, branch_limit}
 use Rattle.model.specs.Resolved.{Model, channel_names, resolved}
@@ -104,25 +104,24 @@ module _ (text : List ℕ) (s : Syntax.Model) (y5 : Yes5 text s) (y7 : Yes7 text
       (rw q (at_most _ whole_digits (λ l. y7 k (long-decimal t.1 t.2 (inl l)))))
       (rw q (at_most _ fraction_digits (λ l. y7 k (long-decimal t.1 t.2 (inr l)))))
 
-  number-fine : (n : Syntax.Scale) → ((b : Bool) (k : ℕ) → n ≡ Syntax.number b false k → WholeIn w s b k) → ((b : Bool) (k : ℕ) → n ≡ Syntax.number b true k → get_elem? (kinds_of (tokens text)) k ≡ some kind.decimal) → FineNumber w vs ds cs n
+  number-fine : (v : Syntax.Number) → ((b : Bool) (k : ℕ) → v ≡ Syntax.number b false k → WholeIn w s b k) → ((b : Bool) (k : ℕ) → v ≡ Syntax.number b true k → get_elem? (kinds_of (tokens text)) k ≡ some kind.decimal) → FineNumber w vs ds cs v
   number-fine (Syntax.number b false k) f g = whole-fine b k (f b k refl)
   number-fine (Syntax.number b true k) f g = decimal-fine b k (g b k refl)
-  number-fine (Syntax.named_scale k) f g = tt
 
   variable-fine : (v : Variable) → In v vs → FineNumber w vs ds cs v.number
   variable-fine v i =
       number-fine v.number (λ b k e. in_variable i e)
       (λ b k e. decimal-variable (kinds_of (tokens text)) b k (number-written (kinds_of (tokens text)) y5.reading y5.reads (subst (λ (m : Syntax.Model). In v (variables m)) (sym y5.tree) i)) e)
 
-  whole-rate : (r : Syntax.Rate) (b : Bool) (k : ℕ) → scale_of r ≡ Syntax.number b false k → In (whole b k) (rate_sites r)
-  unfolding rate_sites scale_sites
+  whole-rate : (r : Syntax.Rate) (b : Bool) (k : ℕ) → scale_of r ≡ Syntax.fixed (Syntax.number b false k) → In (whole b k) (rate_sites r)
+  unfolding rate_sites scale_sites number_sites
   whole-rate (Syntax.plain n) b k e = subst (λ (x : Syntax.Scale). In (whole b k) (scale_sites x)) (sym e) (head refl)
   whole-rate (Syntax.scaled n a) b k e = subst (λ (x : Syntax.Scale). In (whole b k) (scale_sites x ++ expr_sites a)) (sym e) (head refl)
 
-  rate-fine : (sc : Scope) (i k : ℕ) (g : Syntax.Gate) (a : Syntax.Action) (r : Syntax.Rate) (n : Syntax.Next) → BranchIn s sc i (Syntax.branch k g a r n) → FineNumber w vs ds cs (scale_of r)
-  rate-fine sc i k g a r n h =
-      number-fine (scale_of r) (λ b j e. in_definition (in_rate h (whole-rate r b j e)))
-      (λ b j e. decimal-rate (kinds_of (tokens text)) b j (written (kinds_of (tokens text)) y5.reading y5.reads (subst (λ (m : Syntax.Model). BranchIn m sc i (Syntax.branch k g a r n)) (sym y5.tree) h)) e)
+  rate-fine : (sc : Scope) (i k : ℕ) (g : Syntax.Gate) (a : Syntax.Action) (r : Syntax.Rate) (n : Syntax.Next) → BranchIn s sc i (Syntax.branch k g a r n) → (v : Syntax.Number) → scale_of r ≡ Syntax.fixed v → FineNumber w vs ds cs v
+  rate-fine sc i k g a r n h v q =
+      number-fine v (λ b j e. in_definition (in_rate h (whole-rate r b j (q ∙ ap Syntax.fixed e))))
+      (λ b j e. decimal-rate (kinds_of (tokens text)) b j (written (kinds_of (tokens text)) y5.reading y5.reads (subst (λ (m : Syntax.Model). BranchIn m sc i (Syntax.branch k g a r n)) (sym y5.tree) h)) (q ∙ ap Syntax.fixed e))
 
   pub faultless : Faultless w s
   unfolding titles expr_sites

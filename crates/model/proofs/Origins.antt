@@ -150,12 +150,12 @@ module _ (ts : List ℕ) where
   -- ---- variables
 
   -- a number that is written in the tokens
-  pub record NumberWritten (s : Syntax.Scale) : Type 0 where
+  pub record NumberWritten (v : Syntax.Number) : Type 0 where
     pub number : derived.Number
     pub place : ℕ
     pub rest : List ℕ
     pub text : drop place ts ≡ flat_number number rest
-    pub tree : s ≡ number_at number place
+    pub tree : v ≡ number_at number place
 
   abbrev VariablesOf : List Variable → Type 0
   VariablesOf [] = Unit {0}

@@ -22,7 +22,7 @@ use Rattle.grammar.specs.Syntax.{wide, number_at, args_at, branch_at, next_at, c
 use Rattle.grammar.proofs.Prepends.{Prepends, longer}
 use Rattle.grammar.proofs.Wide.{wide-prefix, wide-next, wide-cont, wide-item, wide-items, wide-params, wide-wholes, wide-starts, wide-start, wide-system, wide-definitions, wide-model}
 use Rattle.model.specs.Lists.{each}
-use Rattle.model.specs.Sites.{Scope, Site, whole, value, scale, bound, branch, call, expr_sites, scale_sites, rate_sites, gate_sites, action_sites, args_sites, params_of, Variable, variables, Definition, definitions_in, definitions, system_in, system, starts_in, starts, names, titles}
+use Rattle.model.specs.Sites.{Scope, Site, whole, value, scale, bound, branch, call, expr_sites, number_sites, rate_sites, gate_sites, action_sites, args_sites, params_of, Variable, variables, Definition, definitions_in, definitions, system_in, system, starts_in, starts, names, titles}
 use Rattle.model.specs.Words.{nth, place_of, word_of}
 use Rattle.model.specs.Opening.{byte_place}
 use Rattle.model.specs.Stands.{items_of, Holds, itself, grouped, BranchIn, SiteIn, beginning, in_gate, in_action, in_rate, calling, in_call}
@@ -172,7 +172,7 @@ module _ (w : ℕ → List ℕ) (ts : List ℕ) (d : derived.Model) (reads : Rea
 
 module _ (l : ℕ) where
   abbrev VariableBefore : Variable → Type 0
-  VariableBefore v = (v.name < l) × AllBefore l (scale_sites v.number)
+  VariableBefore v = (v.name < l) × AllBefore l (number_sites v.number)
 
   abbrev DefinitionBefore : Definition → Type 0
   DefinitionBefore d = (d.name < l) × ((k : ℕ) → In k d.params → k < l)
@@ -297,9 +297,9 @@ module _ (text : List ℕ) (s : Syntax.Model) (y5 : Yes5 text s) where
   start-values (Syntax.counted c k r) h = h.2
 
   whole_in : {b : Bool} {k : ℕ} → WholeIn w s b k → k < length ts
-  unfolding scale_sites
+  unfolding number_sites
   whole_in {b} {k} (in_definition h) = site-in (whole b k) h
-  whole_in {b} {k} (in_variable {v = v} i e) = (model_in.0 v i).1 (whole b k) (subst (λ (x : Syntax.Scale). In (whole b k) (scale_sites x)) (sym e) (head refl))
+  whole_in {b} {k} (in_variable {v = v} i e) = (model_in.0 v i).1 (whole b k) (subst (λ (x : Syntax.Number). In (whole b k) (number_sites x)) (sym e) (head refl))
   whole_in {b} {k} (in_system {s = x} i j) = start-values x (model_in.2 x i) (whole b k) j
 
   name_in : {k : ℕ} → In k (names (variables s)) → k < length ts

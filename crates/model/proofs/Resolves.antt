@@ -38,11 +38,10 @@ module _ (w : ℕ → List ℕ) (vs : List Variable) (ds : List Definition) (cs 
 
     -- ---- names
 
-    number-good : (s : Syntax.Scale) → FineNumber w vs ds cs s → is_value (variable s) ≡ true → GoodExpr n (Resolved.constant (number_value w vs ds cs s))
+    number-good : (v : Syntax.Number) → FineNumber w vs ds cs v → is_value (variable v) ≡ true → GoodExpr n (Resolved.constant (number_value w vs ds cs v))
     unfolding is_value GoodExpr number_value
     number-good (Syntax.number b false k) h e = h
     number-good (Syntax.number b true k) h e = not-both e refl
-    number-good (Syntax.named_scale k) h e = not-both e refl
 
     named-good : {k : ℕ} (o : Meaning) → Means w k vs sc o → is_value o ≡ true → GoodExpr n (value_named w vs ds cs o)
     unfolding is_value GoodExpr value_named
@@ -50,11 +49,10 @@ module _ (w : ℕ → List ℕ) (vs : List Variable) (ds : List Definition) (cs 
     named-good o (a_variable {v = v} l i e) h = number-good v.number (numbers v i) h
     named-good o (unknown l f) h = not-both h refl
 
-    scale-fixed : (s : Syntax.Scale) → FineNumber w vs ds cs s → nat_abs (number_scale w vs ds cs s) ≤ scale_limit
+    scale-fixed : (v : Syntax.Number) → FineNumber w vs ds cs v → nat_abs (number_scale w vs ds cs v) ≤ scale_limit
     unfolding number_scale
     scale-fixed (Syntax.number b false k) h = whole-scale (whole_of w b k) h
     scale-fixed (Syntax.number b true k) h = h
-    scale-fixed (Syntax.named_scale k) h = omega arith
 
     scaled-good : {k : ℕ} (o : Meaning) → Means w k vs sc o → is_given o ≡ true → GoodScale n (scale_named w vs ds cs o)
     unfolding is_given GoodScale scale_named
@@ -108,12 +106,12 @@ module _ (w : ℕ → List ℕ) (vs : List Variable) (ds : List Definition) (cs 
     gate-good Syntax.no_gate h = tt
     gate-good (Syntax.gate c) h = cond-good c h
 
-    scale-good : (s : Syntax.Scale) → FineNumber w vs ds cs s → AllFine w vs ds cs sc (scale_sites s) → GoodScale n (resolve_scale w vs ds cs sc s)
+    scale-good : (s : Syntax.Scale) → ((v : Syntax.Number) → s ≡ Syntax.fixed v → FineNumber w vs ds cs v) → AllFine w vs ds cs sc (scale_sites s) → GoodScale n (resolve_scale w vs ds cs sc s)
     unfolding scale_sites resolve_scale GoodScale
-    scale-good (Syntax.number b d k) f h = scale-fixed (Syntax.number b d k) f
+    scale-good (Syntax.fixed v) f h = scale-fixed v (f v refl)
     scale-good (Syntax.named_scale k) f h = scaled-good _ (means w k vs sc) (h (scale k) (head refl))
 
-    pub rate-good : (r : Syntax.Rate) → FineNumber w vs ds cs (scale_of r) → AllFine w vs ds cs sc (rate_sites r) → GoodRate n (resolve_rate w vs ds cs sc r)
+    pub rate-good : (r : Syntax.Rate) → ((v : Syntax.Number) → scale_of r ≡ Syntax.fixed v → FineNumber w vs ds cs v) → AllFine w vs ds cs sc (rate_sites r) → GoodRate n (resolve_rate w vs ds cs sc r)
     unfolding rate_sites resolve_rate GoodRate
     rate-good (Syntax.plain s) f h = scale-good s f h
     rate-good (Syntax.scaled s e) f h = (scale-good s f (λ x i. h x (left (expr_sites e) i)), expr-good e (λ x i. h x (right (scale_sites s) i)))
@@ -125,16 +123,15 @@ module _ (w : ℕ → List ℕ) (vs : List Variable) (ds : List Definition) (cs 
     Known ks = (k : ℕ) → In k ks → or_zero (place_in w k 0 cs) < length cs
 
     -- a name that is no channel name is a value
-    no-channel : (s : Syntax.Scale) → is_channel_name (variable s) ≡ false → is_value (variable s) ≡ true
+    no-channel : (v : Syntax.Number) → is_channel_name (variable v) ≡ false → is_value (variable v) ≡ true
     unfolding is_channel_name is_value
     no-channel (Syntax.number b false k) e = refl
     no-channel (Syntax.number b true k) e = not-both refl e
-    no-channel (Syntax.named_scale k) e = not-both refl e
 
     given-value : (o : Meaning) → is_channel_name o ≡ false → is_value o ≡ true
     unfolding is_channel_name is_value
     given-value (local i) e = refl
-    given-value (variable s) e = no-channel s e
+    given-value (variable v) e = no-channel v e
     given-value nothing e = not-both refl e
 
     sets-count : (s : Syntax.Sets) → length (resolve_sets w vs ds cs sc s) ≡ count_sets s

@@ -24,15 +24,14 @@ use Rattle.model.proofs.Sited.{over-in, in-over}
 use Rattle.model.proofs.Meanings.{only_one, Means, a_local, a_variable, unknown, means, Defines, found, absent, defines}
 
 -- a variable's number is a value in an expression exactly where it is whole
-number-value : (s : Syntax.Scale) → is_value (variable s) ≡ true → IsWhole s
+number-value : (v : Syntax.Number) → is_value (variable v) ≡ true → IsWhole v
 unfolding is_value IsWhole
 number-value (Syntax.number b false k) e = (b, k, refl)
 number-value (Syntax.number b true k) e = not-both e refl
-number-value (Syntax.named_scale k) e = not-both e refl
 
-pub whole-value : (s : Syntax.Scale) → IsWhole s → is_value (variable s) ≡ true
+pub whole-value : (v : Syntax.Number) → IsWhole v → is_value (variable v) ≡ true
 unfolding is_value IsWhole
-whole-value s h = ap (λ (x : Syntax.Scale). is_value (variable x)) h.2
+whole-value v h = ap (λ (x : Syntax.Number). is_value (variable x)) h.2
 
 module _ (w : ℕ → List ℕ) (m : Syntax.Model) (new : (k : ℕ) → NotNew w m k → ⊥) where
   pub one-variable : {v u : Variable} → In v (variables m) → In u (variables m) → w v.name ≡ w u.name → v ≡ u

@@ -35,10 +35,9 @@ module _ (w : ℕ → List ℕ) (vs : List Variable) (ds : List Definition) (cs 
   AllFine sc xs = (x : Site) → In x xs → Fine sc x
 
   -- of a number: a whole one is in range, a decimal one has few digits
-  abbrev pub FineNumber : Syntax.Scale → Type 0
+  abbrev pub FineNumber : Syntax.Number → Type 0
   FineNumber (Syntax.number b false k) = InRange (whole_of w b k)
   FineNumber (Syntax.number b true k) = nat_abs (decimal_of w b k) ≤ scale_limit
-  FineNumber (Syntax.named_scale k) = Unit {0}
 
 module _ (w : ℕ → List ℕ) (m : Syntax.Model) where
   abbrev vs : List Variable
@@ -55,7 +54,7 @@ module _ (w : ℕ → List ℕ) (m : Syntax.Model) where
     pub numbering : DefinitionsFrom ds 0
     pub sites : (sc : Scope) (x : Site) → SiteIn w m sc x → Fine w vs ds cs sc x
     pub variables : (v : Variable) → In v vs → FineNumber w vs ds cs v.number
-    pub rates : (sc : Scope) (i k : ℕ) (g : Syntax.Gate) (a : Syntax.Action) (r : Syntax.Rate) (n : Syntax.Next) → BranchIn m sc i (Syntax.branch k g a r n) → FineNumber w vs ds cs (scale_of r)
+    pub rates : (sc : Scope) (i k : ℕ) (g : Syntax.Gate) (a : Syntax.Action) (r : Syntax.Rate) (n : Syntax.Next) → BranchIn m sc i (Syntax.branch k g a r n) → (v : Syntax.Number) → scale_of r ≡ Syntax.fixed v → FineNumber w vs ds cs v
     pub parameters : (d : Definition) → In d ds → length d.params ≤ parameter_limit
     pub definitions : length ds ≤ definition_limit
     pub counts : (c k : ℕ) (s : Syntax.Starts) → In (Syntax.counted c k s) (starts m) → worth 0 (w c) ≤ count_limit

@@ -101,8 +101,8 @@ pub record VariableIn (w : ℕ → List ℕ) (m : Syntax.Model) (k : ℕ) : Type
   pub member : In variable (variables m)
   pub same : w variable.name ≡ w k
 
-unfoldable pub IsWhole : Syntax.Scale → Type 0
-IsWhole s = (b : Bool) × (k : ℕ) × (s ≡ Syntax.number b false k)
+unfoldable pub IsWhole : Syntax.Number → Type 0
+IsWhole v = (b : Bool) × (k : ℕ) × (v ≡ Syntax.number b false k)
 
 pub record WholeVariableIn (w : ℕ → List ℕ) (m : Syntax.Model) (k : ℕ) : Type 0 where
   pub named : VariableIn w m k

@@ -9,7 +9,7 @@ use Rattle.model.specs.Words.{same}
 -- what a name stands for: a local by its place in scope, a variable by its number, or nothing
 pub data Meaning : Type 0 where
   local : ℕ → Meaning
-  variable : Syntax.Scale → Meaning
+  variable : Syntax.Number → Meaning
   nothing : Meaning
 
 unfoldable pub or_else : Option ℕ → Meaning → Meaning
@@ -20,13 +20,12 @@ or_else none other = other
 unfoldable pub is_value : Meaning → Bool
 is_value (local i) = true
 is_value (variable (Syntax.number b decimal k)) = not decimal
-is_value (variable (Syntax.named_scale k)) = false
 is_value nothing = false
 
 -- 01, Rate: a rate's scale may be decimal
 unfoldable pub is_given : Meaning → Bool
 is_given (local i) = true
-is_given (variable s) = true
+is_given (variable v) = true
 is_given nothing = false
 
 unfoldable pub takes : ℕ → Option (ℕ × Definition) → Bool

@@ -8,7 +8,7 @@ use Rattle.token.specs.Token.{Mark, tokens}
 use Rattle.token.specs.Contents.{bytes_of, few_digits}
 use Rattle.grammar.specs.Syntax
 use Rattle.model.specs.Lists.{each, when}
-use Rattle.model.specs.Sites.{Scope, Site, whole, value, scale, bound, branch, call, scale_sites, Variable, Definition, names, titles, variables, definitions, starts, over_sites}
+use Rattle.model.specs.Sites.{Scope, Site, whole, value, scale, bound, branch, call, number_sites, Variable, Definition, names, titles, variables, definitions, starts, over_sites}
 use Rattle.model.specs.Words.{word_of, whole_of}
 
 -- 01, question 7: how large a count may be
@@ -61,7 +61,7 @@ module _ (w : ℕ → List ℕ) where
   site_beyond sc (call k n) = []
 
   unfoldable pub variable_beyond : Variable → List ℕ
-  variable_beyond v = each (site_beyond []) (scale_sites v.number)
+  variable_beyond v = each (site_beyond []) (number_sites v.number)
 
   -- a parameter with six before it
   unfoldable pub definition_beyond : Definition → List ℕ

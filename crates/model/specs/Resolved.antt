@@ -101,7 +101,6 @@ pub record Model : Type 0 where
 unfoldable pub is_channel_name : Meaning → Bool
 is_channel_name (local i) = false
 is_channel_name (variable (Syntax.number b decimal k)) = decimal
-is_channel_name (variable (Syntax.named_scale k)) = true
 is_channel_name nothing = true
 
 -- w: the bytes of each token; vs: the variables
@@ -193,24 +192,22 @@ list_of f (Syntax.next_expr e r) = f e ∷ list_of f r
 
 module _ (w : ℕ → List ℕ) (vs : List Variable) (ds : List Definition) (cs : List ℕ) where
   -- a whole variable's value
-  unfoldable pub number_value : Syntax.Scale → ℤ
+  unfoldable pub number_value : Syntax.Number → ℤ
   number_value (Syntax.number b decimal k) = whole_of w b k
-  number_value (Syntax.named_scale k) = pos 0
 
   -- 01, Values: a decimal as written, a whole number times 10,000
-  unfoldable pub number_scale : Syntax.Scale → ℤ
+  unfoldable pub number_scale : Syntax.Number → ℤ
   number_scale (Syntax.number b false k) = whole_of w b k *ℤ pos unit
   number_scale (Syntax.number b true k) = decimal_of w b k
-  number_scale (Syntax.named_scale k) = pos 0
 
   unfoldable pub value_named : Meaning → Expr
   value_named (local i) = local_at i
-  value_named (variable s) = constant (number_value s)
+  value_named (variable v) = constant (number_value v)
   value_named nothing = constant (pos 0)
 
   unfoldable pub scale_named : Meaning → Scale
   scale_named (local i) = scale_local i
-  scale_named (variable s) = fixed (number_scale s)
+  scale_named (variable v) = fixed (number_scale v)
   scale_named nothing = fixed (pos 0)
 
   -- sc: the locals in scope
@@ -236,7 +233,7 @@ module _ (w : ℕ → List ℕ) (vs : List Variable) (ds : List Definition) (cs 
     resolve_gate (Syntax.gate c) = some (resolve_cond c)
 
     unfoldable pub resolve_scale : Syntax.Scale → Scale
-    resolve_scale (Syntax.number b d k) = fixed (number_scale (Syntax.number b d k))
+    resolve_scale (Syntax.fixed v) = fixed (number_scale v)
     resolve_scale (Syntax.named_scale k) = scale_named (meaning w vs sc k)
 
     unfoldable pub resolve_rate : Syntax.Rate → Rate

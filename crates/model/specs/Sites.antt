@@ -56,9 +56,13 @@ gate_sites Syntax.no_gate = []
 gate_sites (Syntax.gate c) = cond_sites c
 
 -- a number of a rate or a variable; a decimal is none of these sites
+unfoldable pub number_sites : Syntax.Number → List Site
+number_sites (Syntax.number b false k) = whole b k ∷ []
+number_sites (Syntax.number b true k) = []
+
+-- 01, Rate: a rate's scale is a number or a name
 unfoldable pub scale_sites : Syntax.Scale → List Site
-scale_sites (Syntax.number b false k) = whole b k ∷ []
-scale_sites (Syntax.number b true k) = []
+scale_sites (Syntax.fixed v) = number_sites v
 scale_sites (Syntax.named_scale k) = scale k ∷ []
 
 unfoldable pub rate_sites : Syntax.Rate → List Site
@@ -172,7 +176,7 @@ sums_sites w sc (Syntax.next_sum s r) = sum_sites w sc s ++ sums_sites w sc r
 -- a variable: its name and its number
 pub record Variable : Type 0 where
   pub name : ℕ
-  pub number : Syntax.Scale
+  pub number : Syntax.Number
 
 -- a definition: its name, its parameters, its sums
 pub record Definition : Type 0 where

@@ -13,7 +13,7 @@ use Rattle.tree.specs.Node.{op_kind, join_kind, relation_kind, test_kind, number
 use Rattle.tree.specs.Table
 use Rattle.tree.specs.Table.{Node, Leaf, One, Two}
 use Rattle.tree.proofs.Cells.{node-kind, node-token}
-use Rattle.model.specs.Sites.{Site, expr_sites, exprs_sites, set_sites, cond_sites, scale_sites, rate_sites, values_sites, sets_sites}
+use Rattle.model.specs.Sites.{Site, expr_sites, exprs_sites, set_sites, cond_sites, number_sites, scale_sites, rate_sites, values_sites, sets_sites}
 use Rattle.names.specs.Leaves.{leaf_sites, site_at, between}
 
 pub between-append : (t : List ℕ) (i a b : ℕ) → between t i (a + b) ≡ between t i a ++ between t (i + a) b
@@ -142,12 +142,16 @@ module _ (t : List ℕ) where
   cond-lies (Syntax.both c d) = lies-two refl refl (cond-lies c) (cond-lies d)
   cond-lies (Syntax.either c d) = lies-two refl refl (cond-lies c) (cond-lies d)
 
+  pub number-lies : (v : Syntax.Number) → Lies t (Table.Number t v) (number_sites v)
+  unfolding Table.Number number_sites leaf_sites number_kind
+  number-lies (Syntax.number false false n) = lies-leaf refl
+  number-lies (Syntax.number true false n) = lies-leaf refl
+  number-lies (Syntax.number false true n) = lies-leaf refl
+  number-lies (Syntax.number true true n) = lies-leaf refl
+
   pub scale-lies : (s : Syntax.Scale) → Lies t (Table.Scale t s) (scale_sites s)
   unfolding Table.Scale scale_sites leaf_sites number_kind
-  scale-lies (Syntax.number false false n) = lies-leaf refl
-  scale-lies (Syntax.number true false n) = lies-leaf refl
-  scale-lies (Syntax.number false true n) = lies-leaf refl
-  scale-lies (Syntax.number true true n) = lies-leaf refl
+  scale-lies (Syntax.fixed v) = number-lies v
   scale-lies (Syntax.named_scale n) = lies-leaf refl
 
   pub rate-lies : (r : Syntax.Rate) → Lies t (Table.Rate t r) (rate_sites r)

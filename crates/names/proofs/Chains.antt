@@ -19,7 +19,7 @@ use Rattle.tree.specs.Node.{kind_of, left_of}
 use Rattle.tree.specs.Table
 use Rattle.tree.specs.Table.{Node}
 use Rattle.tree.proofs.Interval.{kind_at, inside}
-use Rattle.tree.proofs.Holds.{model-interval, definitions-interval, system-interval}
+use Rattle.tree.proofs.Holds.{number-low, model-interval, definitions-interval, system-interval}
 use Rattle.tree.proofs.Cells.{node-kind, node-token, node-left}
 use Rattle.model.specs.Lists.{each, every_other}
 use Rattle.model.specs.Sites.{Variable, Definition, variables, definitions, definitions_in, names, titles, tokens_of, params_of}
@@ -82,7 +82,7 @@ module _ (t : List ℕ) where
   pub record VariableAt (v : Variable) (i : ℕ) : Type 0 where
     pub left : ℕ
     pub node : Node t i node.variable v.name left 0
-    pub number : Table.Scale t v.number left left
+    pub number : Table.Number t v.number left left
     pub below : left < i
 
   pub record DefinitionAt (d : Definition) (i : ℕ) : Type 0 where
@@ -100,16 +100,10 @@ module _ (t : List ℕ) where
   unfolding name_at
   definition-name {i = i} h = simp (ne_eqb (kind_at t i) node.variable h.other) (rw h.left (node-token h.at.node (omega arith)))
 
-  -- a number is one node
-  scale-leaf : (s : Syntax.Scale) (lo k : ℕ) → Table.Scale t s lo k → lo ≡ k
-  unfolding Table.Scale
-  scale-leaf (Syntax.number b d n) lo k h = sym h.low
-  scale-leaf (Syntax.named_scale n) lo k h = sym h.low
-
-  first-variable : (n : ℕ) (v : Syntax.Scale) (m : Syntax.Model) (lo k : ℕ) → Table.Model t (Syntax.variable n v m) lo k → VariableAt (record { name = n; number = v }) k
+  first-variable : (n : ℕ) (v : Syntax.Number) (m : Syntax.Model) (lo k : ℕ) → Table.Model t (Syntax.variable n v m) lo k → VariableAt (record { name = n; number = v }) k
   unfolding Table.Model
   first-variable n v m lo k h =
-      let l = scale-leaf v lo h.left h.holds-first in
+      let l = sym (number-low t v lo h.left h.holds-first) in
       let q = (model-interval m).low h.holds-second in
       record { left = h.left; node = h.node; number = rw l at h.holds-first; below = omega (arith, h.above) }
 

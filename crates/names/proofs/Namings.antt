@@ -125,10 +125,9 @@ module _ (w : ℕ → List ℕ) (k : ℕ) where
         by false q f rest = rw q (rest f)
 
 -- a variable's number is whole where its node says so
-pub whole-number : (t : List ℕ) (s : Syntax.Scale) (l k : ℕ) → Table.Scale t s l k → is_value (variable s) ≡ (eqb (kind_at t k) (number_kind false false) || eqb (kind_at t k) (number_kind true false))
-unfolding Table.Scale is_value number_kind
+pub whole-number : (t : List ℕ) (v : Syntax.Number) (l k : ℕ) → Table.Number t v l k → is_value (variable v) ≡ (eqb (kind_at t k) (number_kind false false) || eqb (kind_at t k) (number_kind true false))
+unfolding Table.Number is_value number_kind
 whole-number t (Syntax.number false false n) l k h = rw (node-kind h.node (omega arith))
 whole-number t (Syntax.number false true n) l k h = rw (node-kind h.node (omega arith))
 whole-number t (Syntax.number true false n) l k h = rw (node-kind h.node (omega arith))
 whole-number t (Syntax.number true true n) l k h = rw (node-kind h.node (omega arith))
-whole-number t (Syntax.named_scale n) l k h = rw (node-kind h.node (omega arith))

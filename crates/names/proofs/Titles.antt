@@ -15,7 +15,7 @@ use Rattle.token.specs.Questions.{Found}
 use Rattle.grammar.specs.Syntax
 use Rattle.tree.specs.Table
 use Rattle.model.specs.Lists.{each, when, any, earlier, least}
-use Rattle.model.specs.Sites.{Site, Definition, scale_sites, names, titles, variables, definitions, definitions_in, system, system_in, starts, starts_in, definition_sites, sites, over_sites}
+use Rattle.model.specs.Sites.{Site, Definition, number_sites, names, titles, variables, definitions, definitions_in, system, system_in, starts, starts_in, definition_sites, sites, over_sites}
 use Rattle.model.specs.Words.{same}
 use Rattle.model.specs.Limits.{local_limit, variable_limit, definition_limit, site_beyond, variable_beyond, definition_beyond, start_beyond, tree_beyond}
 use Rattle.model.specs.Fresh.{repeated, definition_repeated, not_new}
@@ -32,7 +32,8 @@ use Rattle.names.specs.Settings.{World, Setting, faults_at}
 use Rattle.names.specs.Walks.{faults_over, Ground, list_faults, number_faults, param_faults, definition_faults, start_faults, lines_faults, lines_judged, LinesRoom, TreeRoom}
 use Rattle.names.proofs.Earliest.{least-append, least_picked, nothing_right, assoc, swap, nothing-second, told}
 use Rattle.names.proofs.Lookups.{found-some}
-use Rattle.names.proofs.Between.{scale-lies}
+use Rattle.tree.proofs.Holds.{number-low}
+use Rattle.names.proofs.Between.{number-lies}
 use Rattle.names.proofs.Chains.{variable-names, definition-names}
 use Rattle.names.proofs.Lookups.{down-length, down-at}
 use Rattle.names.proofs.Namings.{any-placed}
@@ -115,18 +116,13 @@ list-given w limit ks q e = rw e
 
 -- ---- where variables and definitions stand
 module _ (t : List ℕ) where
-  scale-low : (v : Syntax.Scale) (lo k : ℕ) → Table.Scale t v lo k → k ≡ lo
-  unfolding Table.Scale
-  scale-low (Syntax.number b d n) lo k h = h.low
-  scale-low (Syntax.named_scale n) lo k h = h.low
-
   -- variables' numbers are the first nodes, one each
-  pub numbers-lie : (m : Syntax.Model) (lo k : ℕ) → Table.Model t m lo k → between t lo (length (variables m)) ≡ each (λ v. scale_sites v.number) (variables m)
+  pub numbers-lie : (m : Syntax.Model) (lo k : ℕ) → Table.Model t m lo k → between t lo (length (variables m)) ≡ each (λ v. number_sites v.number) (variables m)
   unfolding Table.Model variables each between
   numbers-lie (Syntax.definitions d) lo k h = refl
   numbers-lie (Syntax.variable n v m) lo k h =
-      let e = scale-low v lo h.left h.holds-first in
-      let f : between t lo 1 ≡ scale_sites v = (scale-lies t v).leaves h.holds-first 1 (omega arith) in
+      let e = number-low t v lo h.left h.holds-first in
+      let f : between t lo 1 ≡ number_sites v = (number-lies t v).leaves h.holds-first 1 (omega arith) in
       ap₂ (λ (a b : List Site). a ++ b) (sym (append-nil (site_at t lo)) ∙ f) (rw e at (numbers-lie m (h.left + 1) h.right h.holds-second))
 
   -- definitions stand between them and the nodes of variables
@@ -137,7 +133,7 @@ module _ (t : List ℕ) where
       let f : lo + 0 ≡ lo = omega arith in
       (d, rw (e, f) h, refl, refl)
   lines-below (Syntax.variable n v m) lo k h =
-      let l = scale-low v lo h.left h.holds-first in
+      let l = number-low t v lo h.left h.holds-first in
       let r = lines-below m (h.left + 1) h.right h.holds-second in
       let e : h.right - length (variables m) ≡ k - suc (length (variables m)) = omega (arith, h.above) in
       let f : h.left + 1 + length (variables m) ≡ lo + suc (length (variables m)) = omega arith in
@@ -165,7 +161,7 @@ module _ (low high nodes : List ℕ) (lists : Lists) where
       let e : lists.variables - 0 ≡ length (variables h.model) = omega (arith, h.gathered.variables-are) in
       f (setting-none h s none)
       ∙ ap (λ (l : List Site). least (each (site_beyond h.word []) l)) (rw e (numbers-lie nodes h.model 0 lists.root h.holds))
-      ∙ ap least (each-each (site_beyond h.word []) (λ v. scale_sites v.number) (variables h.model))
+      ∙ ap least (each-each (site_beyond h.word []) (λ v. number_sites v.number) (variables h.model))
 
   pub numbers-limits : (s : Scope) → (length s.names ≡ local_limit) × (s.count ≡ 0) → {q : Question} {r : Found} → q ≡ Limits → ((h : Setting q low high nodes lists s) → r ≡ least (each (faults_at h) (between nodes 0 (lists.variables - 0)))) → NumbersAnswer r q
   numbers-limits s none {r = r} e f =

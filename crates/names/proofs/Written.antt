@@ -256,8 +256,8 @@ module _ (ts t : List ℕ) where
       ors-fit r (conjunction_at x a k) _ us (conjunction-fit x a k (flat_ors r us) d) (past ts k _ (wide-conjunction x a) d)
 
   -- ---- rates
-  number-fit : (v : derived.Number) (k : ℕ) (us : List ℕ) → drop k ts ≡ flat_number v us → Fit (Table.Scale t (number_at v k))
-  unfolding flat_number flat_whole number_at Table.Scale sort_of SortFits number_kind
+  number-fit : (v : derived.Number) (k : ℕ) (us : List ℕ) → drop k ts ≡ flat_number v us → Fit (Table.Number t (number_at v k))
+  unfolding flat_number flat_whole number_at Table.Number sort_of SortFits number_kind
   number-fit (derived.integer derived.whole) k us d = fit-leaf (number_kind false false) k (omega arith) (head_at ts k d)
   number-fit (derived.integer derived.negative) k us d = fit-leaf (number_kind true false) (k + 1) (omega arith) (head_at ts (k + 1) (next-token ts k d))
   number-fit derived.decimal k us d = fit-leaf (number_kind false true) k (omega arith) tt

@@ -17,9 +17,7 @@ use Rattle.token.specs.Bytes.{within}
 use Rattle.token.specs.Token.{Mark, tokens, kinds_of}
 use Rattle.token.specs.Contents.{before_point, after_point, bytes_of, few_digits, decimal_content, low_of, lows_in, highs_in}
 use Rattle.token.specs.Questions.{First, Found}
-use Rattle.grammar.specs.Grammar as derived
 use Rattle.grammar.specs.Syntax
-use Rattle.grammar.specs.Syntax.{number_at}
 use Rattle.model.specs.Lists.{least}
 use Rattle.model.specs.Sites.{Variable, variables, definitions}
 use Rattle.model.specs.Stands.{BranchIn}
@@ -42,7 +40,7 @@ use Rattle.names.proofs.Earliest.{least-append, nothing-first}
 use Rattle.names.proofs.Contents.{of-decimal, tabled-at}
 use Rattle.names.proofs.Grounds.{world}
 use Rattle.settle.specs.Walks.{NumberSafe}
-use Rattle.settle.specs.Places.{Told, VariableSafe, Base, Resolvable}
+use Rattle.settle.specs.Places.{Told, Base, Resolvable}
 use Rattle.settle.specs.declared.Model.{Model}
 use Rattle.settle.specs.Settles.{Settles}
 use Rattle.opening.specs.Trees.{Fitted}
@@ -64,14 +62,6 @@ got-below (x ∷ xs) (suc i) e = let l = got-below xs i e in omega arith
 few-content : (s : List ℕ) → length (before_point s) ≤ whole_digits → 1 ≤ length (after_point s) → length (after_point s) ≤ fraction_digits → (decimal_content s).low ≡ ten_thousandths (before_point s) (after_point s)
 unfolding decimal_content few_digits within
 few-content s a b c = simp (le-leb (length (before_point s)) whole_digits a, le-leb 1 (length (after_point s)) b, le-leb (length (after_point s)) fraction_digits c)
-
--- a variable's number is none by name
-variable-safe : (w : ℕ → List ℕ) (told : ℕ → Type 0) (v : derived.Number) (k : ℕ) → NumberSafe w told (number_at v k) → VariableSafe w told (number_at v k)
-unfolding number_at
-variable-safe w told (derived.integer derived.whole) k h = h
-variable-safe w told (derived.integer derived.negative) k h = h
-variable-safe w told derived.decimal k h = h
-variable-safe w told derived.negative_decimal k h = h
 
 module _ {text : List ℕ} {s : Syntax.Model} {kinds places : List ℕ} {contents : List Content} {nodes : List ℕ} {root : ℕ} (f : Fitted text s kinds places contents nodes root) (v : Sound text s) where
   abbrev low : List ℕ
@@ -123,21 +113,17 @@ module _ {text : List ℕ} {s : Syntax.Model} {kinds places : List ℕ} {content
         let q = ap (λ (b : List ℕ). ten_thousandths (before_point b) (after_point b)) (sym (word_at text k m.0 m.1)) in
         (a.0, a.1 ∙ z ∙ decimal-content m.0 m.1 m.2 ∙ q)
 
-  number-safe : (x : Syntax.Scale) → FineNumber w (variables s) (definitions s) (channel_names w (variables s) (definitions s)) x → ((b : Bool) (k : ℕ) → x ≡ Syntax.number b true k → get_elem? ts k ≡ some kind.decimal) → NumberSafe w (Told low w) x
+  number-safe : (x : Syntax.Number) → FineNumber w (variables s) (definitions s) (channel_names w (variables s) (definitions s)) x → ((b : Bool) (k : ℕ) → x ≡ Syntax.number b true k → get_elem? ts k ≡ some kind.decimal) → NumberSafe w (Told low w) x
   number-safe (Syntax.number b false k) h g = h
   number-safe (Syntax.number b true k) h g = (h, decimal-told k (g b k refl))
-  number-safe (Syntax.named_scale k) h g = tt
 
   variable-written : (x : Variable) → In x (variables s) → NumberWritten ts x.number
   variable-written x i = number-written ts f.read.reading f.read.reads (rw f.read.tree at i)
 
-  variable-fine : (x : Variable) → In x (variables s) → VariableSafe w (Told low w) x.number
-  variable-fine x i =
-      let g = variable-written x i in
-      let a = number-safe x.number (sound.variables x i) (λ b k e. decimal-variable ts b k g e) in
-      subst (λ (y : Syntax.Scale). VariableSafe w (Told low w) y) (sym g.tree) (variable-safe w (Told low w) g.number g.place (rw g.tree at a))
+  variable-fine : (x : Variable) → In x (variables s) → NumberSafe w (Told low w) x.number
+  variable-fine x i = number-safe x.number (sound.variables x i) (λ b k e. decimal-variable ts b k (variable-written x i) e)
 
-  rate-told : (sc : List ℕ) (i k : ℕ) (g : Syntax.Gate) (x : Syntax.Action) (r : Syntax.Rate) (m : Syntax.Next) → BranchIn s sc i (Syntax.branch k g x r m) → (b : Bool) (j : ℕ) → scale_of r ≡ Syntax.number b true j → Told low w j
+  rate-told : (sc : List ℕ) (i k : ℕ) (g : Syntax.Gate) (x : Syntax.Action) (r : Syntax.Rate) (m : Syntax.Next) → BranchIn s sc i (Syntax.branch k g x r m) → (b : Bool) (j : ℕ) → scale_of r ≡ Syntax.fixed (Syntax.number b true j) → Told low w j
   rate-told sc i k g x r m h b j e = decimal-told j (decimal-rate ts b j (written ts f.read.reading f.read.reads (rw f.read.tree at h)) e)
 
   -- ---- the tables

@@ -41,7 +41,6 @@ unfolding is_channel_name is_value
 channel-or-value (local i) e = refl
 channel-or-value (variable (Syntax.number b false k)) e = refl
 channel-or-value (variable (Syntax.number b true k)) e = not-both refl e
-channel-or-value (variable (Syntax.named_scale k)) e = not-both refl e
 channel-or-value nothing e = not-both refl e
 
 module _ (w : ℕ → List ℕ) (vs : List Variable) (ds : List Definition) (cs : List ℕ) (told : ℕ → Type 0) (t t' roots scopes : List ℕ) (trace : ℕ → Point) (first last : ℕ)

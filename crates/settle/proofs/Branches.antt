@@ -100,7 +100,7 @@ pub fields_fit : (c : ℕ) → (left_of c < field) × (third_of c < field)
 unfolding left_of third_of
 fields_fit c = (omega arith, omega arith)
 
-module _ (w : ℕ → List ℕ) (m : Syntax.Model) (ok : Faultless w m) (new : (k : ℕ) → NotNew w m k → ⊥) (told : ℕ → Type 0) (decimals : (sc : Scope) (i k : ℕ) (g : Syntax.Gate) (x : Syntax.Action) (r : Syntax.Rate) (n : Syntax.Next) → BranchIn m sc i (Syntax.branch k g x r n) → (b : Bool) (j : ℕ) → scale_of r ≡ Syntax.number b true j → told j) (t t' roots scopes : List ℕ) (trace : ℕ → Point) (first last : ℕ)
+module _ (w : ℕ → List ℕ) (m : Syntax.Model) (ok : Faultless w m) (new : (k : ℕ) → NotNew w m k → ⊥) (told : ℕ → Type 0) (decimals : (sc : Scope) (i k : ℕ) (g : Syntax.Gate) (x : Syntax.Action) (r : Syntax.Rate) (n : Syntax.Next) → BranchIn m sc i (Syntax.branch k g x r n) → (b : Bool) (j : ℕ) → scale_of r ≡ Syntax.fixed (Syntax.number b true j) → told j) (t t' roots scopes : List ℕ) (trace : ℕ → Point) (first last : ℕ)
     (steps : (i : ℕ) → first ≤ i → i < last → trace (i + 1) ≡ step w (variables m) (definitions m) t i (trace i)) where
   abbrev vs : List Variable
   vs = variables m
@@ -292,7 +292,7 @@ module _ (w : ℕ → List ℕ) (m : Syntax.Model) (ok : Faultless w m) (new : (
         (λ lo k h u v e. offer-going j x r n p a few (λ y l. in_action b l) (λ y l. ok.sites p.scope y (in_rate b l)) (ok.rates p.scope i j (Syntax.gate c) x r n b) (decimals p.scope i j (Syntax.gate c) x r n b) (λ c e. leads b e) f lo k h u v e) lo k h u v e
 
     offer-going : (j : ℕ) (x : Syntax.Action) (r : Syntax.Rate) (n : Syntax.Next) (p : Point) (a : ℕ) → length p.scope ≤ local_limit
-        → ((y : Site) → In y (action_sites w x) → SiteIn w m p.scope y) → AllFine w vs ds cs p.scope (rate_sites r) → FineNumber w vs ds cs (scale_of r) → ((b : Bool) (i : ℕ) → scale_of r ≡ Syntax.number b true i → told i) → ((c : Syntax.Cont) → n ≡ Syntax.dot c → Leads (p.scope ++ bindings x) c) → NextFrom n a
+        → ((y : Site) → In y (action_sites w x) → SiteIn w m p.scope y) → AllFine w vs ds cs p.scope (rate_sites r) → ((v : Syntax.Number) → scale_of r ≡ Syntax.fixed v → FineNumber w vs ds cs v) → ((b : Bool) (i : ℕ) → scale_of r ≡ Syntax.fixed (Syntax.number b true i) → told i) → ((c : Syntax.Cont) → n ≡ Syntax.dot c → Leads (p.scope ++ bindings x) c) → NextFrom n a
         → Going p (on p (action_use w vs p.scope x ++ next_uses w vs (p.scope ++ bindings x) n) (count_next n)) a (count_next n) (next_tree w vs ds cs p.definitions (p.scope ++ bindings x) n) (Table.Offer t j x r n)
         (Offer t' (resolve_action w vs ds cs p.scope x) (resolve_rate w vs ds cs p.scope r) (resolve_next w vs ds cs (p.scope ++ bindings x) n))
     offer-going j x r Syntax.stop p a few inside fine number decimal l f lo k h u v e =

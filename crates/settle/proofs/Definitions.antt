@@ -39,7 +39,7 @@ use Rattle.settle.proofs.Moves.{Moved, Moves, Does, plain-does, moved-with, move
 use Rattle.settle.proofs.Branches.{on, on-on, sum-going}
 use Rattle.settle.proofs.Lines.{system-stays}
 
-module _ (w : ℕ → List ℕ) (m : Syntax.Model) (ok : Faultless w m) (new : (k : ℕ) → NotNew w m k → ⊥) (told : ℕ → Type 0) (decimals : (sc : Scope) (i k : ℕ) (g : Syntax.Gate) (x : Syntax.Action) (r : Syntax.Rate) (n : Syntax.Next) → BranchIn m sc i (Syntax.branch k g x r n) → (b : Bool) (j : ℕ) → scale_of r ≡ Syntax.number b true j → told j) (t t' roots scopes : List ℕ) (trace : ℕ → Point) (first last : ℕ)
+module _ (w : ℕ → List ℕ) (m : Syntax.Model) (ok : Faultless w m) (new : (k : ℕ) → NotNew w m k → ⊥) (told : ℕ → Type 0) (decimals : (sc : Scope) (i k : ℕ) (g : Syntax.Gate) (x : Syntax.Action) (r : Syntax.Rate) (n : Syntax.Next) → BranchIn m sc i (Syntax.branch k g x r n) → (b : Bool) (j : ℕ) → scale_of r ≡ Syntax.fixed (Syntax.number b true j) → told j) (t t' roots scopes : List ℕ) (trace : ℕ → Point) (first last : ℕ)
     (steps : (i : ℕ) → first ≤ i → i < last → trace (i + 1) ≡ step w (variables m) (definitions m) t i (trace i)) where
   abbrev vs : List Variable
   vs = variables m

@@ -33,8 +33,8 @@ use Rattle.names.specs.Settings.{World, Setting}
 use Rattle.names.proofs.Namings.{FoundVariable, variable-found, variable-none, definition-found, definition-none}
 use Rattle.names.proofs.Settled.{node-fits, name-inside, vs-at, ds-at, vs-few, root_in, reach-variables, reach-definitions, all-variables, all-definitions, in_scope, place-locals}
 use Rattle.names.proofs.Uses.{some-place, no_place}
-use Rattle.settle.specs.Walks.{definition_of}
-use Rattle.settle.specs.Places.{Told, VariableSafe, Lookup, word_in, kinds_in, variables_in, definitions_of, NumberNode, Place, meaning_at}
+use Rattle.settle.specs.Walks.{definition_of, NumberSafe}
+use Rattle.settle.specs.Places.{Told, Lookup, word_in, kinds_in, variables_in, definitions_of, NumberNode, Place, meaning_at}
 
 -- ---- a table some of whose nodes stay
 
@@ -118,17 +118,17 @@ module _ {low high nodes : List ℕ} {lists : Lists} (h : Lookup low high nodes 
         by third b true z f = not-both refl z
 
     -- a name that stands for a variable stands for a number in range
-    pub variable-safe : (s : Syntax.Scale) → variable_named (word_in h) k (variables_in h) ≡ variable s → VariableSafe (word_in h) (Told low (word_in h)) s
+    pub variable-safe : (s : Syntax.Number) → variable_named (word_in h) k (variables_in h) ≡ variable s → NumberSafe (word_in h) (Told low (word_in h)) s
     unfolding meaning or_else place_in
     variable-safe s q = by (variable_named (word_in h) k (variables_in h)) (means (word_in h) k (variables_in h) []) q
       where
-        by : (o : Meaning) → Means (word_in h) k (variables_in h) [] o → o ≡ variable s → VariableSafe (word_in h) (Told low (word_in h)) s
+        by : (o : Meaning) → Means (word_in h) k (variables_in h) [] o → o ≡ variable s → NumberSafe (word_in h) (Told low (word_in h)) s
         by o (a_local i g x) q = absurd (let z : ◌≡◌ {A = ℕ} 0 1 = cc in omega arith)
         by o (a_variable {v = v} n i x) q = let z : v.number ≡ s = cc in rw z at (h.base.numbers v i)
         by o (unknown n f) q = absurd (let z : ◌≡◌ {A = ℕ} 0 1 = cc in omega arith)
 
-    number-node : (s : Syntax.Scale) (l i c : ℕ) → VariableSafe (word_in h) (Told low (word_in h)) s → Table.Scale t s l i → i ≤ lists.root → c ≡ get_or t i 0 → NumberNode low (word_in h) (variable s) c
-    unfolding Table.Scale
+    number-node : (s : Syntax.Number) (l i c : ℕ) → NumberSafe (word_in h) (Told low (word_in h)) s → Table.Number t s l i → i ≤ lists.root → c ≡ get_or t i 0 → NumberNode low (word_in h) (variable s) c
+    unfolding Table.Number
     number-node (Syntax.number b false j) l i c v n u q =
         let small : number_kind b false < 256 = number_small b false in
         let r = whole-told b false j i n.node small refl u in
@@ -136,7 +136,6 @@ module _ {low high nodes : List ℕ} {lists : Lists} (h : Lookup low high nodes 
     number-node (Syntax.number b true j) l i c v n u q =
         let small : number_kind b true < 256 = number_small b true in
         (record { kind-is = ap kind_of q ∙ node-kind n.node small; inside = v.1.0; wholes = λ z. not-both refl z; safe = v }, ap token_of q ∙ node-token n.node small)
-    number-node (Syntax.named_scale j) l i c v n u q = absurd v
 
     module _ {f : Found} (is : f ≡ found_of (place_in (packed low high) k 0 (names_down nodes lists.root lists.variables))) where
       place_is : place_in (packed low high) k 0 (names_down nodes lists.root lists.variables) ≡ place_in (word_in h) k 0 (names (variables_in h))

@@ -103,7 +103,6 @@ module _ (low : List ℕ) (w : ℕ → List ℕ) (c : ℕ) where
   whole-named (variable (Syntax.number b false j)) n e = record { negated = b; token = j; means = refl; told = n.0; token-is = n.1 }
   whole-named (variable (Syntax.number false true j)) n e = not-both e (rw n.0.kind-is)
   whole-named (variable (Syntax.number true true j)) n e = not-both e (rw n.0.kind-is)
-  whole-named (variable (Syntax.named_scale j)) n e = absurd n
   whole-named nothing n e = absurd n
 
   channel-named : (m : Meaning) → NumberNode low w m c → whole_kind ≡ false → is_channel_name m ≡ true
@@ -112,7 +111,6 @@ module _ (low : List ℕ) (w : ℕ → List ℕ) (c : ℕ) where
   channel-named (variable (Syntax.number false false j)) n e = not-both (rw n.0.kind-is) e
   channel-named (variable (Syntax.number true false j)) n e = not-both (rw n.0.kind-is) e
   channel-named (variable (Syntax.number b true j)) n e = refl
-  channel-named (variable (Syntax.named_scale j)) n e = absurd n
   channel-named nothing n e = absurd n
 
   -- the kind tells whether there is a `-`
@@ -280,7 +278,6 @@ module _ (low : List ℕ) (w : ℕ → List ℕ) (c : ℕ) where
   unfolding is_given
   number-of-name (local i) n e = absurd n
   number-of-name (variable (Syntax.number b d j)) n e = record { negated = b; decimal = d; token = j; means = refl; told = n.0; token-is = n.1 }
-  number-of-name (variable (Syntax.named_scale j)) n e = absurd n
   number-of-name nothing n e = absurd n
 
 pub scale_same : (w : ℕ → List ℕ) (vs : List Variable) (ds : List Definition) (b d : Bool) (j : ℕ) → number_scale w [] [] [] (Syntax.number b d j) ≡ number_scale w vs ds [] (Syntax.number b d j)

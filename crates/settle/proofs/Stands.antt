@@ -11,6 +11,7 @@ use Rattle.grammar.specs.Syntax
 use Rattle.tree.specs.Node.{field, kind_of, token_of, left_of, third_of, number_kind}
 use Rattle.tree.specs.Table
 use Rattle.tree.proofs.Cells.{node-left}
+use Rattle.tree.proofs.Holds.{number-low}
 use Rattle.model.specs.Sites.{Variable, Definition, variables, definitions}
 use Rattle.names.specs.declared.Question.TheVariants.{Given}
 use Rattle.names.specs.declared.Lists.{Lists}
@@ -26,20 +27,15 @@ use Rattle.settle.proofs.Finds.{asks}
 use Rattle.settle.proofs.Parameters.{definitions-listed}
 
 -- the numbers of the variables stand first, one a node
-scale_at : (t : List ℕ) (v : Syntax.Scale) (lo k : ℕ) → Table.Scale t v lo k → k ≡ lo
-unfolding Table.Scale
-scale_at t (Syntax.number b d n) lo k h = h.low
-scale_at t (Syntax.named_scale n) lo k h = h.low
-
 numbers-first : (t : List ℕ) (m : Syntax.Model) (lo k : ℕ) → Table.Model t m lo k → (j : ℕ) → j < length (variables m) → left_of (get_or t (k - j) 0) ≡ lo + j
 unfolding Table.Model variables
 numbers-first t (Syntax.definitions d) lo k h j l = absurd (omega arith)
 numbers-first t (Syntax.variable n v m) lo k h zero l =
     let e : k - 0 ≡ k = omega arith in
-    rw e (node-left h.node (omega arith) ∙ scale_at t v lo h.left h.holds-first ∙ omega arith)
+    rw e (node-left h.node (omega arith) ∙ number-low t v lo h.left h.holds-first ∙ omega arith)
 numbers-first t (Syntax.variable n v m) lo k h (suc j) l =
     let r = numbers-first t m (h.left + 1) h.right h.holds-second j (omega arith) in
-    let z = scale_at t v lo h.left h.holds-first in
+    let z = number-low t v lo h.left h.holds-first in
     let e : k - suc j ≡ h.right - j = omega (arith, h.above) in
     rw e (r ∙ omega arith)
 

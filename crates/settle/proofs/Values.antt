@@ -87,7 +87,6 @@ unfolding is_value is_channel_name
 value-no-channel (local i) e = refl
 value-no-channel (variable (Syntax.number b false k)) e = refl
 value-no-channel (variable (Syntax.number b true k)) e = not-both e refl
-value-no-channel (variable (Syntax.named_scale k)) e = not-both e refl
 value-no-channel nothing e = not-both e refl
 
 value-given : (m : Meaning) → is_value m ≡ true → is_given m ≡ true
@@ -104,7 +103,6 @@ module _ (w : ℕ → List ℕ) (vs : List Variable) (ds : List Definition) (cs 
   value-holds n seen (local i) k e l g c = index_of node.named i k (omega arith) (omega arith) c
   value-holds n seen (variable (Syntax.number b false j)) k e l g c = number-of node.literal (whole_of w b j) k (range-fits (whole_of w b j) g) c
   value-holds n seen (variable (Syntax.number b true j)) k e l g c = not-both e refl
-  value-holds n seen (variable (Syntax.named_scale j)) k e l g c = not-both e refl
   value-holds n seen nothing k e l g c = not-both e refl
 
   -- sc: the locals in scope; where the walk has more of them, those are not named here
@@ -141,7 +139,7 @@ module _ (w : ℕ → List ℕ) (vs : List Variable) (ds : List Definition) (cs 
         stays-leaf role.name (omega arith) refl (λ x. absurd (let z : ◌≡◌ {A = ℕ} 0 1 = cc in omega arith)) (λ x. absurd (let z : ◌≡◌ {A = ℕ} 0 1 = cc in omega arith)) (λ c q n. rw (n, e, no)) (λ c q n. tt)
         (λ i c n x. value-holds sc p.seen (meaning w vs sc k) i v few g (rw (n, e, no) at x))
 
-    fixed-stays : (b d : Bool) (k : ℕ) → role_of (number_kind b d) ≡ role.number b d → number_kind b d < 256 → NumberSafe w told (Syntax.number b d k) → GoodScale (length sc) (resolve_scale w vs ds cs sc (Syntax.number b d k)) → Stays (Leaf t (number_kind b d) k) (settled.Scale t' (resolve_scale w vs ds cs sc (Syntax.number b d k)))
+    fixed-stays : (b d : Bool) (k : ℕ) → role_of (number_kind b d) ≡ role.number b d → number_kind b d < 256 → NumberSafe w told (Syntax.number b d k) → GoodScale (length sc) (Resolved.fixed (number_scale w vs ds cs (Syntax.number b d k))) → Stays (Leaf t (number_kind b d) k) (settled.Scale t' (Resolved.fixed (number_scale w vs ds cs (Syntax.number b d k))))
     unfolding step_by cell_by scale_cell settled.Scale resolve_scale GoodScale number_kind number_scale
     fixed-stays b true k e l f g =
         stays-leaf (role.number b true) l e (λ x. absurd (let z : ◌≡◌ {A = ℕ} 0 1 = cc in omega arith)) (λ x. absurd (let z : ◌≡◌ {A = ℕ} 0 1 = cc in omega arith)) (λ c q n. refl) (λ c q n. rw n f)
@@ -155,7 +153,6 @@ module _ (w : ℕ → List ℕ) (vs : List Variable) (ds : List Definition) (cs 
     scale-holds (local i) k e g c = index_of node.scale_name i k (omega arith) (omega arith) c
     scale-holds (variable (Syntax.number b false j)) k e g c = number-of 29 (number_scale w vs ds cs (Syntax.number b false j)) k (omega (arith, g)) c
     scale-holds (variable (Syntax.number b true j)) k e g c = number-of 29 (decimal_of w b j) k (omega (arith, g)) c
-    scale-holds (variable (Syntax.named_scale j)) k e g c = number-of 29 (number_scale w vs ds cs (Syntax.named_scale j)) k (omega (arith, g)) c
     scale-holds nothing k e g c = not-both e refl
 
     scale-named-stays : (k : ℕ) → is_given (meaning w vs sc k) ≡ true → GoodScale (length sc) (scale_named w vs ds cs (meaning w vs sc k)) → Stays (Leaf t node.scale_name k) (settled.Scale t' (scale_named w vs ds cs (meaning w vs sc k)))
@@ -197,24 +194,27 @@ module _ (w : ℕ → List ℕ) (vs : List Variable) (ds : List Definition) (cs 
     cond-stays (Syntax.both c d) h = stays_two (omega arith) refl (λ lo k x. (cond-interval d).low x) (cond-stays c (λ x i. h x (left (cond_sites d) i))) (cond-stays d (λ x i. h x (right (cond_sites c) i)))
     cond-stays (Syntax.either c d) h = stays_two (omega arith) refl (λ lo k x. (cond-interval d).low x) (cond-stays c (λ x i. h x (left (cond_sites d) i))) (cond-stays d (λ x i. h x (right (cond_sites c) i)))
 
-    number-safe : (s : Syntax.Scale) → FineNumber w vs ds cs s → ((b : Bool) (j : ℕ) → s ≡ Syntax.number b true j → told j) → NumberSafe w told s
+    number-safe : (v : Syntax.Number) → FineNumber w vs ds cs v → ((b : Bool) (j : ℕ) → v ≡ Syntax.number b true j → told j) → NumberSafe w told v
     number-safe (Syntax.number b false n) f g = f
     number-safe (Syntax.number b true n) f g = (f, g b n refl)
-    number-safe (Syntax.named_scale n) f g = tt
 
-    scale-stays : (s : Syntax.Scale) → NumberSafe w told s → AllFine w vs ds cs sc (scale_sites s) → GoodScale (length sc) (resolve_scale w vs ds cs sc s) → Stays (Table.Scale t s) (settled.Scale t' (resolve_scale w vs ds cs sc s))
-    unfolding Table.Scale scale_sites resolve_scale role_of number_kind
-    scale-stays (Syntax.number false false n) f h g = fixed-stays false false n refl (omega arith) f g
-    scale-stays (Syntax.number true false n) f h g = fixed-stays true false n refl (omega arith) f g
-    scale-stays (Syntax.number false true n) f h g = fixed-stays false true n refl (omega arith) f g
-    scale-stays (Syntax.number true true n) f h g = fixed-stays true true n refl (omega arith) f g
+    number-stays : (v : Syntax.Number) → NumberSafe w told v → GoodScale (length sc) (Resolved.fixed (number_scale w vs ds cs v)) → Stays (Table.Number t v) (settled.Scale t' (Resolved.fixed (number_scale w vs ds cs v)))
+    unfolding Table.Number role_of number_kind
+    number-stays (Syntax.number false false n) f g = fixed-stays false false n refl (omega arith) f g
+    number-stays (Syntax.number true false n) f g = fixed-stays true false n refl (omega arith) f g
+    number-stays (Syntax.number false true n) f g = fixed-stays false true n refl (omega arith) f g
+    number-stays (Syntax.number true true n) f g = fixed-stays true true n refl (omega arith) f g
+
+    scale-stays : (s : Syntax.Scale) → ((v : Syntax.Number) → s ≡ Syntax.fixed v → NumberSafe w told v) → AllFine w vs ds cs sc (scale_sites s) → GoodScale (length sc) (resolve_scale w vs ds cs sc s) → Stays (Table.Scale t s) (settled.Scale t' (resolve_scale w vs ds cs sc s))
+    unfolding Table.Scale scale_sites resolve_scale
+    scale-stays (Syntax.fixed v) f h g = number-stays v (f v refl) g
     scale-stays (Syntax.named_scale n) f h g = scale-named-stays n (h (scale n) (head refl)) g
 
-    pub rate-stays : (r : Syntax.Rate) → FineNumber w vs ds cs (scale_of r) → ((b : Bool) (j : ℕ) → scale_of r ≡ Syntax.number b true j → told j) → AllFine w vs ds cs sc (rate_sites r) → Stays (Table.Rate t r) (settled.Rate t' (resolve_rate w vs ds cs sc r))
+    pub rate-stays : (r : Syntax.Rate) → ((v : Syntax.Number) → scale_of r ≡ Syntax.fixed v → FineNumber w vs ds cs v) → ((b : Bool) (j : ℕ) → scale_of r ≡ Syntax.fixed (Syntax.number b true j) → told j) → AllFine w vs ds cs sc (rate_sites r) → Stays (Table.Rate t r) (settled.Rate t' (resolve_rate w vs ds cs sc r))
     unfolding Table.Rate rate_sites resolve_rate settled.Rate role_of number_kind GoodRate
-    rate-stays (Syntax.plain s) f d h = scale-stays s (number-safe s f d) h (rate-good w vs ds cs numbers sc (Syntax.plain s) f h)
+    rate-stays (Syntax.plain s) f d h = scale-stays s (λ v q. number-safe v (f v q) (λ b j e. d b j (q ∙ ap Syntax.fixed e))) h (rate-good w vs ds cs numbers sc (Syntax.plain s) f h)
     rate-stays (Syntax.scaled s e) f d h =
-        stays_two (omega arith) refl (λ lo k x. (expr-interval e).low x) (scale-stays s (number-safe s f d) (λ x i. h x (left (expr_sites e) i)) (rate-good w vs ds cs numbers sc (Syntax.scaled s e) f h).0) (expr-stays e (λ x i. h x (right (scale_sites s) i)))
+        stays_two (omega arith) refl (λ lo k x. (expr-interval e).low x) (scale-stays s (λ v q. number-safe v (f v q) (λ b j x. d b j (q ∙ ap Syntax.fixed x))) (λ x i. h x (left (expr_sites e) i)) (rate-good w vs ds cs numbers sc (Syntax.scaled s e) f h).0) (expr-stays e (λ x i. h x (right (scale_sites s) i)))
 
     pub values-stays : (v : Syntax.Values) → AllFine w vs ds cs sc (values_sites v) → Stays (Table.Values t v) (OneOrTwo t' (settled.Expr t') (resolve_values w vs ds cs sc v))
     unfolding Table.Values values_sites resolve_values OneOrTwo role_of number_kind

@@ -9,6 +9,7 @@ use lib.ListN.{length, get_or, get_elem?}
 use Rattle.grammar.specs.Syntax
 use Rattle.tree.specs.Node.{field, token_of, left_of, third_of}
 use Rattle.tree.specs.Table
+use Rattle.tree.proofs.Holds.{number-low}
 use Rattle.model.specs.Lists.{each}
 use Rattle.model.specs.Sites.{Scope, Variable, Definition, variables, definitions, definitions_in, system_in, system, starts_in, starts}
 use Rattle.model.specs.Faults.{NotNew}
@@ -36,11 +37,6 @@ pub record Below (t : List ℕ) (m : Syntax.Model) (lo k : ℕ) : Type 0 where
   pub lists : Rattle.model.specs.Sites.definitions m ≡ definitions_in definitions
   pub line : system m ≡ system_in definitions
 
-scale-low : (t : List ℕ) (v : Syntax.Scale) (lo k : ℕ) → Table.Scale t v lo k → k ≡ lo
-unfolding Table.Scale
-scale-low t (Syntax.number b d n) lo k h = h.low
-scale-low t (Syntax.named_scale n) lo k h = h.low
-
 pub below : (t : List ℕ) (m : Syntax.Model) (lo k : ℕ) → Table.Model t m lo k → Below t m lo k
 unfolding Table.Model variables definitions system
 below t (Syntax.definitions d) lo k h =
@@ -49,7 +45,7 @@ below t (Syntax.definitions d) lo k h =
     record { definitions = d; holds = rw (e, f) h; lists = refl; line = refl }
 below t (Syntax.variable n v m) lo k h =
     let b = below t m (h.left + 1) h.right h.holds-second in
-    let z = scale-low t v lo h.left h.holds-first in
+    let z = number-low t v lo h.left h.holds-first in
     let e : h.left + 1 + length (variables m) ≡ lo + suc (length (variables m)) = omega arith in
     let f : h.right - length (variables m) ≡ k - suc (length (variables m)) = omega (arith, h.above) in
     record { definitions = b.definitions; holds = subst (λ (i : ℕ). Table.Definitions t b.definitions i (k - suc (length (variables m)))) e (subst (λ (i : ℕ). Table.Definitions t b.definitions (h.left + 1 + length (variables m)) i) f b.holds); lists = b.lists; line = b.line }
@@ -203,7 +199,7 @@ module _ (w : ℕ → List ℕ) (m : Syntax.Model) (t : List ℕ) where
       let e : j - first ≡ i - first + (j - i) = omega arith in
       rw e (definitions-more w vs ds t first (i - first) (j - i) (begun w vs ds))
 
-  module _ (root : ℕ) (ok : Faultless w m) (new : (k : ℕ) → NotNew w m k → ⊥) (told : ℕ → Type 0) (decimals : (sc : Scope) (i k : ℕ) (g : Syntax.Gate) (x : Syntax.Action) (r : Syntax.Rate) (n : Syntax.Next) → BranchIn m sc i (Syntax.branch k g x r n) → (b : Bool) (j : ℕ) → scale_of r ≡ Syntax.number b true j → told j) (h : Table.Model t m 0 root) where
+  module _ (root : ℕ) (ok : Faultless w m) (new : (k : ℕ) → NotNew w m k → ⊥) (told : ℕ → Type 0) (decimals : (sc : Scope) (i k : ℕ) (g : Syntax.Gate) (x : Syntax.Action) (r : Syntax.Rate) (n : Syntax.Next) → BranchIn m sc i (Syntax.branch k g x r n) → (b : Bool) (j : ℕ) → scale_of r ≡ Syntax.fixed (Syntax.number b true j) → told j) (h : Table.Model t m 0 root) where
     -- the system line's node, and the first after it
     abbrev pub line : ℕ
     line = root - length vs - length ds

@@ -41,15 +41,10 @@ pub record ScaleTold (low : List ℕ) (w : ℕ → List ℕ) (b d : Bool) (κ k 
   pub wholes : d ≡ false → get_or low k 0 ≡ min cap (worth 0 (w k))
   pub safe : NumberSafe w (Told low w) (Syntax.number b d k)
 
--- a variable's number, which is no name
-abbrev pub VariableSafe : (ℕ → List ℕ) → (ℕ → Type 0) → Syntax.Scale → Type 0
-VariableSafe w told (Syntax.number b d k) = NumberSafe w told (Syntax.number b d k)
-VariableSafe w told (Syntax.named_scale k) = ⊥
-
 -- the reader's table t tells of a text and its syntax tree, whose variables are in range
 pub record Base (low high t : List ℕ) (lists : Lists) : Type 0 where
   pub world : World Given low high t lists
-  pub numbers : (v : Variable) → In v (variables world.model) → VariableSafe world.word (Told low world.word) v.number
+  pub numbers : (v : Variable) → In v (variables world.model) → NumberSafe world.word (Told low world.word) v.number
   pub few : length (definitions world.model) ≤ definition_limit
   pub short : (d : Definition) → In d (definitions world.model) → length d.params ≤ parameter_limit
   pub room : lists.root < field
@@ -106,7 +101,6 @@ meaning_at h k = meaning (word_in h.at) (variables_in h.at) h.locals k
 abbrev pub NumberNode : List ℕ → (ℕ → List ℕ) → Meaning → ℕ → Type 0
 NumberNode low w (local i) c = ⊥
 NumberNode low w (variable (Syntax.number b d k)) c = ScaleTold low w b d (kind_of c) k × (token_of c ≡ k)
-NumberNode low w (variable (Syntax.named_scale k)) c = ⊥
 NumberNode low w nothing c = ⊥
 
 -- that node, or none where the name stands for no variable
@@ -230,7 +224,7 @@ pub record Resolvable (low high t : List ℕ) (roots scopes names : ℕ) (lists 
   pub base : Base low high t lists
   pub faultless : Faultless base.world.word base.world.model
   pub new : (k : ℕ) → NotNew base.world.word base.world.model k → ⊥
-  pub decimals : (sc : List ℕ) (i k : ℕ) (g : Syntax.Gate) (x : Syntax.Action) (r : Syntax.Rate) (n : Syntax.Next) → BranchIn base.world.model sc i (Syntax.branch k g x r n) → (b : Bool) (j : ℕ) → scale_of r ≡ Syntax.number b true j → Told low base.world.word j
+  pub decimals : (sc : List ℕ) (i k : ℕ) (g : Syntax.Gate) (x : Syntax.Action) (r : Syntax.Rate) (n : Syntax.Next) → BranchIn base.world.model sc i (Syntax.branch k g x r n) → (b : Bool) (j : ℕ) → scale_of r ≡ Syntax.fixed (Syntax.number b true j) → Told low base.world.word j
   pub roots-room : lists.root < roots
   pub scopes-room : lists.root < scopes
   pub names-room : lists.root < names

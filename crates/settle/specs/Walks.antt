@@ -80,10 +80,9 @@ params_at (d ∷ ds) (suc n) = params_at ds n
 -- ---- what the walk needs of a node, where questions 7 to 9 found no fault
 
 -- 01, question 7: of a number, a whole one is in range; told: a decimal's contents are in the table
-abbrev pub NumberSafe : (ℕ → List ℕ) → (ℕ → Type 0) → Syntax.Scale → Type 0
+abbrev pub NumberSafe : (ℕ → List ℕ) → (ℕ → Type 0) → Syntax.Number → Type 0
 NumberSafe w told (Syntax.number b false k) = InRange (whole_of w b k)
 NumberSafe w told (Syntax.number b true k) = (nat_abs (decimal_of w b k) ≤ scale_limit) × told k
-NumberSafe w told (Syntax.named_scale k) = Unit {0}
 
 -- an action that binds names, or none to bind
 abbrev pub Binds : ℕ → ℕ → Type 0

@@ -230,9 +230,13 @@ module _ (s : ℕ → Bool) (t : List ℕ) where
   cond-lies (Syntax.both c d) = lies-two (refl, refl, refl) (cond-lies c) (cond-lies d)
   cond-lies (Syntax.either c d) = lies-two (refl, refl, refl) (cond-lies c) (cond-lies d)
 
+  number-lies : (v : Syntax.Number) → Lies (Table.Number t v) None
+  unfolding Table.Number
+  number-lies (Syntax.number b d n) = lies-leaf (number-plain b d)
+
   scale-lies : (x : Syntax.Scale) → Lies (Table.Scale t x) None
   unfolding Table.Scale
-  scale-lies (Syntax.number b d n) = lies-leaf (number-plain b d)
+  scale-lies (Syntax.fixed v) = number-lies v
   scale-lies (Syntax.named_scale n) = lies-leaf (refl, refl, refl)
 
   rate-lies : (r : Syntax.Rate) → Lies (Table.Rate t r) None
@@ -369,7 +373,7 @@ module _ (w : ℕ → List ℕ) (ds : List Definition) (t : List ℕ) where
   model-lies : (m : Syntax.Model) → Lies s t (Table.Model t m) (least (all (definitions m)))
   unfolding Table.Model definitions earlier_of
   model-lies (Syntax.definitions d) = definitions-lies d
-  model-lies (Syntax.variable n v m) = lies-two s t (refl, refl, refl) (scale-lies s t v) (model-lies m)
+  model-lies (Syntax.variable n v m) = lies-two s t (refl, refl, refl) (number-lies s t v) (model-lies m)
 
 -- the first offender of a text's tree is the first among its nodes
 pub tree-first : (w : ℕ → List ℕ) (m : Syntax.Model) (t : List ℕ) (root : ℕ) → Table.Model t m 0 root → first_from (several_sums w (definitions m)) t 0 (root + 1) ≡ least (unsteady w m)

@@ -213,7 +213,7 @@ module _ (ts t t₁ : List ℕ) (k used c : ℕ) {r : Counted} (a : ADefinition 
 -- ---- models
 
 abbrev ANumber : List ℕ → List ℕ → List ℕ → ℕ → ℕ → Read → Type 0
-ANumber ts t t' at = Answers (Number' ∷ []) flat_number (λ x v. Table.Scale x (number_at v at)) ts t t' at
+ANumber ts t t' at = Answers (Number' ∷ []) flat_number (λ x v. Table.Number x (number_at v at)) ts t t' at
 
 abbrev AModel : List ℕ → List ℕ → List ℕ → ℕ → ℕ → Read → Type 0
 AModel ts t t' at = Answers (Line ∷ []) flat_model (λ x m. Table.Model x (model_at m at)) ts t t' at

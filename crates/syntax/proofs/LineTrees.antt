@@ -15,7 +15,7 @@ use Rattle.tree.specs.Node as node
 use Rattle.tree.specs.Table
 use Rattle.tree.specs.Reading.{Span, Made, Tally}
 use Rattle.tree.proofs.Interval.{Interval}
-use Rattle.tree.proofs.Holds.{scale-interval, sums-interval, definition-interval, wholes-interval, start-interval, system-interval, definitions-interval, model-interval}
+use Rattle.tree.proofs.Holds.{number-interval, sums-interval, definition-interval, wholes-interval, start-interval, system-interval, definitions-interval, model-interval}
 use Rattle.tree.proofs.Spans.{span-token, ◌then◌, Wrote, span-wrote, span-place, seen-later, seen-leaf, seen_one, seen-two}
 use Rattle.syntax.specs.Judged.{Fitting}
 use Rattle.syntax.specs.Line.{count_params, Given, written_definition, count_definition, Definition, written_wholes, Started}
@@ -49,7 +49,7 @@ TheDefinitions ts t t' k c = Made flat_definitions (λ x d. Table.Definitions x 
 
 -- a number; a model
 abbrev ANumber : List ℕ → List ℕ → List ℕ → ℕ → ℕ → ℕ → ℕ → Type 0
-ANumber ts t t' at = Made flat_number (λ x v. Table.Scale x (number_at v at)) ts t t' at
+ANumber ts t t' at = Made flat_number (λ x v. Table.Number x (number_at v at)) ts t t' at
 
 abbrev AModel : List ℕ → List ℕ → List ℕ → ℕ → ℕ → ℕ → ℕ → Type 0
 AModel ts t t' at = Made flat_model (λ x m. Table.Model x (model_at m at)) ts t t' at
@@ -224,7 +224,7 @@ model-variable k {ts} {t} {t₁} {used = used} {n = n} {left = left} e d a f b w
     let two : k + 1 + 1 ≡ k + 2 = omega arith in
     let value : Span (flat_number a.tree) ts t t₁ (k + 1 + 1) used n (left + 1) = rw two a.span in
     let p = span-place (wide-number a.tree) a.span in
-    let first = scale-interval (number_at a.tree (k + 2)) in
+    let first = number-interval (number_at a.tree (k + 2)) in
     let s = b.span in
     record {
       tree = Grammar.variable a.tree b.tree;

@@ -157,13 +157,13 @@ module _ (ts : List ℕ) (k : ℕ) where
       record { scale = Grammar.named; atom = Grammar.name; scales = s.text; atoms = s.text; onward = omega arith; within = omega (arith, s.within); as-scale = λ t lo i h. h; as-item = λ t lo i h. h }
 
   pub either-whole : get_or ts k 0 ≡ kind.whole → Either ts k k (number_kind false false) node.literal
-  unfolding flat_scale flat_number flat_whole flat_atom scale_at number_at atom_at literal_at Table.Scale Table.Expr
+  unfolding flat_scale flat_number flat_whole flat_atom scale_at number_at atom_at literal_at Table.Number Table.Scale Table.Expr
   either-whole e =
       let s : Span (λ us. kind.whole ∷ us) ts [] [] k 0 (k + 1) 0 = span-token kind.whole e (omega arith) in
       record { scale = Grammar.fixed (Grammar.integer Grammar.whole); atom = Grammar.number Grammar.whole; scales = s.text; atoms = s.text; onward = omega arith; within = omega (arith, s.within); as-scale = λ t lo i h. h; as-item = λ t lo i h. h }
 
   pub either-negative : get_or ts k 0 ≡ kind.minus → get_or ts (k + 1) 0 ≡ kind.whole → Either ts k (k + 1) (number_kind true false) node.negative
-  unfolding flat_scale flat_number flat_whole flat_atom scale_at number_at atom_at literal_at Table.Scale Table.Expr
+  unfolding flat_scale flat_number flat_whole flat_atom scale_at number_at atom_at literal_at Table.Number Table.Scale Table.Expr
   either-negative e d =
       let s : Span (λ us. kind.minus ∷ kind.whole ∷ us) ts [] [] k 0 (k + 1 + 1) 0 = span-token kind.minus e (omega arith) then span-token kind.whole d (omega arith) in
       record { scale = Grammar.fixed (Grammar.integer Grammar.negative); atom = Grammar.number Grammar.negative; scales = s.text; atoms = s.text; onward = omega arith; within = omega (arith, s.within); as-scale = λ t lo i h. h; as-item = λ t lo i h. h }

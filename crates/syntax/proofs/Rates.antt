@@ -31,7 +31,7 @@ abbrev pub UnsignedRead : ℕ → List ℕ → List ℕ → List ℕ → ℕ →
 UnsignedRead whole ts t t' at = Answers (Unsigned ∷ []) flat_unsigned (HoldsUnsigned whole at) ts t t' at
 
 abbrev pub NumberRead : List ℕ → List ℕ → List ℕ → ℕ → ℕ → Read → Type 0
-NumberRead ts t t' at = Answers (Number' ∷ []) flat_number (λ s n. Table.Scale s (number_at n at)) ts t t' at
+NumberRead ts t t' at = Answers (Number' ∷ []) flat_number (λ s n. Table.Number s (number_at n at)) ts t t' at
 
 abbrev pub Scale : List ℕ → List ℕ → List ℕ → ℕ → ℕ → Read → Type 0
 Scale ts t t' at = Answers (Scale' ∷ []) flat_scale (λ s x. Table.Scale s (scale_at x at)) ts t t' at
@@ -82,13 +82,13 @@ unfolding flat_number flat_whole flat_unsigned
 positive-text false us = refl
 positive-text true us = refl
 
-negative-holds : (d : Bool) (s : List ℕ) (k lo i : ℕ) → HoldsUnsigned (number_kind true false) (k + 1) s d lo i → Table.Scale s (number_at (negative d) k) lo i
-unfolding HoldsUnsigned Table.Scale number_at number_kind
+negative-holds : (d : Bool) (s : List ℕ) (k lo i : ℕ) → HoldsUnsigned (number_kind true false) (k + 1) s d lo i → Table.Number s (number_at (negative d) k) lo i
+unfolding HoldsUnsigned Table.Number number_at number_kind
 negative-holds false s k lo i h = h
 negative-holds true s k lo i h = h
 
-positive-holds : (d : Bool) (s : List ℕ) (k lo i : ℕ) → HoldsUnsigned (number_kind false false) k s d lo i → Table.Scale s (number_at (positive d) k) lo i
-unfolding HoldsUnsigned Table.Scale number_at number_kind
+positive-holds : (d : Bool) (s : List ℕ) (k lo i : ℕ) → HoldsUnsigned (number_kind false false) k s d lo i → Table.Number s (number_at (positive d) k) lo i
+unfolding HoldsUnsigned Table.Number number_at number_kind
 positive-holds false s k lo i h = h
 positive-holds true s k lo i h = h
 
@@ -128,7 +128,7 @@ module _ (ts t t' : List ℕ) (at used : ℕ) where
   )
 
   pub scale-number : (r : Read) → (get_or ts at 0 ≡ kind.name → ⊥) → NumberRead ts t t' at used r → Scale ts t t' at used r
-  unfolding ending table is_may flat_scale scale_at
+  unfolding ending table is_may flat_scale scale_at Table.Scale
   scale-number r n a = (
     like ts at (Scale' ∷ []) (Number' ∷ []) (number_step (get_or ts at 0) n) (λ s. refl) a.0,
     parsed-as r (λ i root m. record { tree = Grammar.fixed m.tree; span = m.span; shown = m.shown }) (λ z. z) a.1,

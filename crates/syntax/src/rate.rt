@@ -35,7 +35,7 @@ pub fn unsigned(spot: Spot, nodes: &mut [u64], base: u8) -> Read
 // A number, perhaps with `-` before it.
 pub fn number(spot: Spot, nodes: &mut [u64]) -> Read
     ensures follows { Follows spot.entry.toks.now spot.entry.at (Number' ∷ []) (place result) }
-    ensures parsed { Parsed flat_number (λ t n. Table.Scale t (number_at n spot.entry.at)) spot.entry.toks.now nodes.old nodes.new spot.entry.at spot.entry.used result }
+    ensures parsed { Parsed flat_number (λ t n. Table.Number t (number_at n spot.entry.at)) spot.entry.toks.now nodes.old nodes.new spot.entry.at spot.entry.used result }
 {
     if spot.peek() == b'-' {
         return unsigned(spot.next(), nodes, NodeKind::NEGATIVE_NUMBER);

@@ -92,9 +92,13 @@ module _ (t t' : List ℕ) where
   cond (Syntax.both c d) = two (cond c) (cond d)
   cond (Syntax.either c d) = two (cond c) (cond d)
 
+  number : (v : Syntax.Number) → Alike (Table.Number t v) (Table.Number t' v)
+  unfolding Table.Number
+  number (Syntax.number b d n) = leaf
+
   scale : (s : Syntax.Scale) → Alike (Table.Scale t s) (Table.Scale t' s)
   unfolding Table.Scale
-  scale (Syntax.number b d n) = leaf
+  scale (Syntax.fixed v) = number v
   scale (Syntax.named_scale n) = leaf
 
   rate : (r : Syntax.Rate) → Alike (Table.Rate t r) (Table.Rate t' r)
@@ -193,7 +197,7 @@ module _ (t t' : List ℕ) where
   pub model : (m : Syntax.Model) → Alike (Table.Model t m) (Table.Model t' m)
   unfolding Table.Model
   model (Syntax.definitions d) = definitions d
-  model (Syntax.variable n v m) = two (scale v) (model m)
+  model (Syntax.variable n v m) = two (number v) (model m)
 
 -- a tree's nodes and no more: one list
 pub one_table : (t t' : List ℕ) (m : Syntax.Model) (k k' : ℕ) → Table.Model t m 0 k → Table.Model t' m 0 k' → length t ≡ k + 1 → length t' ≡ k' + 1 → (k ≡ k') × (t ≡ t')

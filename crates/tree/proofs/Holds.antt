@@ -1,6 +1,7 @@
 -- What a table holds of each sort of tree depends on an interval of its nodes, whose root has one of the kinds of the sort: a clause for each
 -- constructor, from the four forms of Interval.antt. Each law has the fields low, keep, from and to.
 use mathlib.Core.Path.{◌≡◌, refl}
+use mathlib.Core.List.{List}
 use mathlib.Core.Bool.{Bool, true, false}
 use Prim.Native.Nat.{ℕ}
 use Rattle.grammar.specs.Grammar.{Relation, less, at_most, greater, at_least, same, differs}
@@ -40,7 +41,7 @@ test-among true at_least = refl
 test-among true same = refl
 test-among true differs = refl
 
-pub number-among : (b d : Bool) → among 29 32 (number_kind b d) ≡ true
+number-among : (b d : Bool) → among 29 32 (number_kind b d) ≡ true
 unfolding number_kind
 number-among false false = refl
 number-among false true = refl
@@ -72,9 +73,18 @@ cond-interval (Syntax.compare b r e f) = wider (two (test-among b r) (expr-inter
 cond-interval (Syntax.both c d) = two refl (cond-interval c) (cond-interval d)
 cond-interval (Syntax.either c d) = two refl (cond-interval c) (cond-interval d)
 
+pub number-interval : (v : Syntax.Number) → Interval 29 32 (λ t. Table.Number t v)
+unfolding Table.Number
+number-interval (Syntax.number b d n) = leaf (number-among b d)
+
+-- a number is one node
+pub number-low : (t : List ℕ) (v : Syntax.Number) (lo k : ℕ) → Table.Number t v lo k → k ≡ lo
+unfolding Table.Number
+number-low t (Syntax.number b d n) lo k h = h.low
+
 pub scale-interval : (s : Syntax.Scale) → Interval 29 33 (λ t. Table.Scale t s)
 unfolding Table.Scale
-scale-interval (Syntax.number b d n) = wider (leaf (number-among b d)) refl
+scale-interval (Syntax.fixed v) = wider (number-interval v) refl
 scale-interval (Syntax.named_scale n) = leaf refl
 
 pub rate-interval : (r : Syntax.Rate) → Interval 29 34 (λ t. Table.Rate t r)
@@ -173,4 +183,4 @@ definitions-interval (Syntax.next_definition n p b d) = two refl (definition-int
 pub model-interval : (m : Syntax.Model) → Interval 63 65 (λ t. Table.Model t m)
 unfolding Table.Model
 model-interval (Syntax.definitions d) = wider (definitions-interval d) refl
-model-interval (Syntax.variable n v m) = two refl (scale-interval v) (model-interval m)
+model-interval (Syntax.variable n v m) = two refl (number-interval v) (model-interval m)

@@ -14,7 +14,7 @@ use Rattle.tree.specs.Node as node
 use Rattle.tree.specs.Node.{op_kind, join_kind, relation_kind, test_kind, number_kind}
 use Rattle.tree.specs.Table
 use Rattle.tree.proofs.Interval.{kind_at, root, between}
-use Rattle.tree.proofs.Holds.{op-among, join-among, test-among, number-among, expr-interval, set-interval, scale-interval}
+use Rattle.tree.proofs.Holds.{op-among, join-among, test-among, expr-interval, set-interval, number-interval, scale-interval}
 use Rattle.tree.proofs.Fields.{Once, same_kind, other-kind, once-leaf, once-one, once-two, once-three}
 
 -- ---- what is read back from a kind
@@ -165,14 +165,18 @@ module _ (t : List ℕ) where
   cond-once (Syntax.either c d) (Syntax.both c' d') lo lo' k h g = absurd (other-kind h.node g.node refl)
   cond-once (Syntax.either c d) (Syntax.either c' d') lo lo' k h g = let r = once-two refl (cond-once c c') (cond-once d d') h g in (cc, r.4)
 
-  pub scale-once : (x y : Syntax.Scale) → Once (Table.Scale t x) (Table.Scale t y) (x ≡ y)
-  unfolding Table.Scale
-  scale-once (Syntax.number b d n) (Syntax.number b' d' n') lo lo' k h g =
+  pub number-once : (x y : Syntax.Number) → Once (Table.Number t x) (Table.Number t y) (x ≡ y)
+  unfolding Table.Number
+  number-once (Syntax.number b d n) (Syntax.number b' d' n') lo lo' k h g =
       let q = same_number b b' d d' (same_kind h.node g.node) in
       let r = once-leaf (ap₂ number_kind q.0 q.1) h g in
       (cc, r.1)
-  scale-once (Syntax.number b d n) (Syntax.named_scale n') lo lo' k h g = absurd (omega (arith, (between 29 32 (number_kind b d) (number-among b d) h.node).1, root g.node))
-  scale-once (Syntax.named_scale n) (Syntax.number b' d' n') lo lo' k h g = absurd (omega (arith, root h.node, (between 29 32 (number_kind b' d') (number-among b' d') g.node).1))
+
+  pub scale-once : (x y : Syntax.Scale) → Once (Table.Scale t x) (Table.Scale t y) (x ≡ y)
+  unfolding Table.Scale
+  scale-once (Syntax.fixed v) (Syntax.fixed v') lo lo' k h g = let r = number-once v v' lo lo' k h g in (ap Syntax.fixed r.0, r.1)
+  scale-once (Syntax.fixed v) (Syntax.named_scale n') lo lo' k h g = absurd (omega (arith, (number-interval v).to h, root g.node))
+  scale-once (Syntax.named_scale n) (Syntax.fixed v') lo lo' k h g = absurd (omega (arith, root h.node, (number-interval v').to g))
   scale-once (Syntax.named_scale n) (Syntax.named_scale n') lo lo' k h g = let r = once-leaf refl h g in (ap Syntax.named_scale r.0, r.1)
 
   pub rate-once : (x y : Syntax.Rate) → Once (Table.Rate t x) (Table.Rate t y) (x ≡ y)

@@ -9,7 +9,7 @@ use Rattle.tree.specs.Table
 use Rattle.tree.proofs.Interval.{root}
 use Rattle.tree.proofs.Holds.{expr-interval, offer-interval, branch-interval, sum-interval, cont-interval, start-interval, definitions-interval}
 use Rattle.tree.proofs.Fields.{Once, other-kind, once-leaf, once-one, once-two, once-three}
-use Rattle.tree.proofs.Once.{expr-once, exprs-once, cond-once, scale-once, rate-once, action-once}
+use Rattle.tree.proofs.Once.{expr-once, exprs-once, cond-once, number-once, rate-once, action-once}
 
 module _ (t : List ℕ) where
   mutual
@@ -132,4 +132,4 @@ module _ (t : List ℕ) where
   model-once (Syntax.definitions d) (Syntax.definitions d') lo lo' k h g = let z = definitions-once d d' lo lo' k h g in (ap Syntax.definitions z.0, z.1)
   model-once (Syntax.definitions d) (Syntax.variable n' v' m') lo lo' k h g = absurd (omega (arith, (definitions-interval d).to h, root g.node))
   model-once (Syntax.variable n v m) (Syntax.definitions d') lo lo' k h g = absurd (omega (arith, root h.node, (definitions-interval d').to g))
-  model-once (Syntax.variable n v m) (Syntax.variable n' v' m') lo lo' k h g = let z = once-two refl (scale-once t v v') (model-once m m') h g in (cc, z.4)
+  model-once (Syntax.variable n v m) (Syntax.variable n' v' m') lo lo' k h g = let z = once-two refl (number-once t v v') (model-once m m') h g in (cc, z.4)

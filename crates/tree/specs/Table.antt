@@ -79,8 +79,11 @@ module _ (t : List ℕ) where
   Cond (Syntax.both c d) = Two t node.both 0 0 (Cond c) (Cond d)
   Cond (Syntax.either c d) = Two t node.either 0 0 (Cond c) (Cond d)
 
+  unfoldable pub Number : Syntax.Number → ℕ → ℕ → Type 0
+  Number (Syntax.number b d n) = Leaf t (number_kind b d) n
+
   unfoldable pub Scale : Syntax.Scale → ℕ → ℕ → Type 0
-  Scale (Syntax.number b d n) = Leaf t (number_kind b d) n
+  Scale (Syntax.fixed v) = Number v
   Scale (Syntax.named_scale n) = Leaf t node.scale_name n
 
   unfoldable pub Rate : Syntax.Rate → ℕ → ℕ → Type 0
@@ -170,4 +173,4 @@ module _ (t : List ℕ) where
 
   unfoldable pub Model : Syntax.Model → ℕ → ℕ → Type 0
   Model (Syntax.definitions d) = Definitions d
-  Model (Syntax.variable n v m) = Two t node.variable n 0 (Scale v) (Model m)
+  Model (Syntax.variable n v m) = Two t node.variable n 0 (Number v) (Model m)

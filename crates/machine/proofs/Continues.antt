@@ -55,7 +55,7 @@ module _ (m : Resolved.Model) (good : GoodModel m) where
     pub next-good : (xs : List Resolved.Part) → Every (GoodPart m (length ls)) xs → Every (GoodProcess m) (next_processes m ls xs)
     unfolding next_processes Every
     next-good [] g = tt
-    next-good (x ∷ xs) g = every_append (GoodProcess m) (part_processes m ls x) (next_processes m ls xs) (part-good x g.0) (next-good xs g.1)
+    next-good (x ∷ xs) g = search (every_append (GoodProcess m), part-good x g.0, next-good xs g.1)
 
   -- a branch of a good process is a good branch over its locals
   pub at-good : {ps : List Process} {i j : ℕ} {p : Process} {b : Resolved.Branch} → GoodProcess m p → BranchAt m ps i j p b → GoodBranch m (length p.locals) b

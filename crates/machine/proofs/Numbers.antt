@@ -1,7 +1,7 @@
 -- A state's numbers are 5,122, and over a good model they tell the state: from the widths of processes and pairs, and since a list is told by what is padded.
 use mathlib.Core.Path.{◌≡◌, refl, sym, ap, ap₂, ◌∙◌}
 use mathlib.Core.List.{List, [], ◌∷◌, ◌++◌}
-use Prim.Native.Nat.{ℕ, ◌+◌, ◌-◌, ◌*◌, ◌≤◌}
+use Prim.Native.Nat.{ℕ, ◌+◌, ◌*◌, ◌≤◌}
 use native.Mathlib.Nat.{suc-mul}
 use native.Mathlib.Omega.{arith}
 use lib.IntN.{ℤ, pos}
@@ -33,7 +33,7 @@ split {A} (x ∷ a) (y ∷ b) c d l e =
 
 padded-length : (n : ℕ) (zs : List ℤ) → length zs ≤ n → length (padded n zs) ≡ n
 unfolding padded
-padded-length n zs l = omega (arith, length-append zs (replicate (n - length zs) (pos 0)), length-replicate (n - length zs) (pos 0))
+padded-length n zs l = simp (length-append, length-replicate) (omega arith)
 
 padded-told : (n : ℕ) (xs ys : List ℤ) → length xs ≡ length ys → padded n xs ≡ padded n ys → xs ≡ ys
 unfolding padded

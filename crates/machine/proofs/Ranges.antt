@@ -11,8 +11,8 @@ use lib.IntN.{ℤ, pos, negsuc}
 use lib.ListN.{length, get_or}
 use Rattle.std.specs.Prelude.{Some}
 use Rattle.value.specs.Range.{InRange}
-use Rattle.value.specs.Arithmetic.{abs_of, max_of, min_of}
-use Rattle.value.proofs.Results.{sum-good, difference-good, product-good, quotient-good, abs-good, max-good, min-good}
+use Rattle.value.specs.Arithmetic.{sum_of, difference_of, product_of, abs_of, max_of, min_of}
+use Rattle.value.proofs.Results.{value-good as result-good, quotient-good, abs-good, either-good}
 use Rattle.grammar.specs.Syntax.{Op, plus, minus, times, divide, maximum, minimum, Join, without, union, inter}
 use Rattle.value.specs.Items.{one_item, two_items, three_items}
 use Rattle.model.specs.Resolved
@@ -49,14 +49,15 @@ rate-good ls (Resolved.scaled s e) n q =
     in-rate _ n v.rest
 
 -- ---- expressions
+-- whichever operator it is: a result is decided by its range, or is one of the two
 apply-good : (o : Op) (x y z : ℤ) → InRange x → InRange y → apply o x y ≡ Some z → InRange z
-unfolding apply
-apply-good plus x y z h k e = sum-good x y z e
-apply-good minus x y z h k e = difference-good x y z e
-apply-good times x y z h k e = product-good x y z e
+unfolding apply sum_of difference_of product_of max_of min_of
+apply-good plus x y z h k e = result-good _ z e
+apply-good minus x y z h k e = result-good _ z e
+apply-good times x y z h k e = result-good _ z e
 apply-good divide x y z h k e = quotient-good x y z e
-apply-good maximum x y z h k e = let q : max_of x y ≡ z = cc in rw q at (max-good x y h k)
-apply-good minimum x y z h k e = let q : min_of x y ≡ z = cc in rw q at (min-good x y h k)
+apply-good maximum x y z h k e = either-good _ x y z h k e
+apply-good minimum x y z h k e = either-good _ x y z h k e
 
 pub zero-good : InRange (pos 0)
 zero-good = record { low = refl; high = refl }

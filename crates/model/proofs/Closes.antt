@@ -115,8 +115,7 @@ module _ (w : ℕ → List ℕ) (m : Syntax.Model) where
 
       items-good : (c : Syntax.Conts) (sc : Scope) → ((x : Syntax.Cont) → In x (items_of c) → Leads sc x) → Every (GoodPart M (length sc)) (parts_in w vs ds cs sc c)
       items-good (Syntax.last_cont c) sc l = parts-good c sc (l c (head refl))
-      items-good (Syntax.next_cont c r) sc l =
-          every_append (GoodPart M (length sc)) (parts_of w vs ds cs sc c) (parts_in w vs ds cs sc r) (parts-good c sc (l c (head refl))) (items-good r sc (λ x i. l x (tail i)))
+      items-good (Syntax.next_cont c r) sc l = search (every_append (GoodPart M (length sc)), parts-good c sc (l c (head refl)), items-good r sc (λ x i. l x (tail i)))
 
     leads : {sc : Scope} {i k : ℕ} {g : Syntax.Gate} {a : Syntax.Action} {r : Syntax.Rate} {c : Syntax.Cont} → BranchIn m sc i (Syntax.branch k g a r (Syntax.dot c)) → Leads (sc ++ bindings a) c
     leads {sc} {i} {a = a} h =

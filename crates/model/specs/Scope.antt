@@ -3,13 +3,17 @@
 use Rattle.std.specs.Prelude.{ℕ, ◌+◌, ◌*◌, ◌/◌, ◌%◌}
 use Rattle.model.specs.Resolved.{Sum}
 
+-- 02, note 6: how many numbers stand for each definition, more than a sum has locals
+abbrev pub scope_width : ℕ
+scope_width = 16
+
 -- at most 8 locals and 64 definitions
 unfoldable pub scope_of : Sum → ℕ
-scope_of s = s.locals + s.definition * 16
+scope_of s = s.locals + s.definition * scope_width
 
 -- its parts
 unfoldable pub locals_in : ℕ → ℕ
-locals_in k = k % 16
+locals_in k = k % scope_width
 
 unfoldable pub definition_in : ℕ → ℕ
-definition_in k = k / 16
+definition_in k = k / scope_width

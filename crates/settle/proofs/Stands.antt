@@ -12,6 +12,7 @@ use Rattle.tree.specs.Node.{field, kind_of, token_of, left_of, third_of, number_
 use Rattle.tree.specs.Table
 use Rattle.tree.proofs.Cells.{node-left}
 use Rattle.tree.proofs.Holds.{number-low}
+use Rattle.model.specs.Scope.{scope_width}
 use Rattle.model.specs.Sites.{Variable, Definition, variables, definitions}
 use Rattle.names.specs.declared.Question.TheVariants.{Given}
 use Rattle.names.specs.declared.Lists.{Lists}
@@ -186,7 +187,7 @@ module _ {low high nodes roots scopes heard : List ℕ} {lists : Lists} {met : �
 
   pub stepped : (r : ℕ) (roots' scopes' heard' : List ℕ) (met' : ℕ) (next : Walk)
       → ((g : Turn low high nodes lists heard met walk (get_or nodes i 0)) → Settled g heard' met' r next)
-      → roots' ≡ marked_by (get_or nodes i 0) roots (i - 1) → scopes' ≡ marked_by (get_or nodes i 0) scopes (walk.scope.count + walk.definitions * 16) → Stepped h (set nodes i r) roots' scopes' heard' met' next
+      → roots' ≡ marked_by (get_or nodes i 0) roots (i - 1) → scopes' ≡ marked_by (get_or nodes i 0) scopes (walk.scope.count + walk.definitions * scope_width) → Stepped h (set nodes i r) roots' scopes' heard' met' next
   unfolding turn lookup cell_of step
   stepped r roots' scopes' heard' met' next f x y =
       let s = f turn in
@@ -198,5 +199,5 @@ module _ {low high nodes roots scopes heard : List ℕ} {lists : Lists} {met : �
         size = s.size;
       }
     where
-      marks : walk.scope.count + walk.definitions * 16 ≡ scope_at h.point
+      marks : walk.scope.count + walk.definitions * scope_width ≡ scope_at h.point
       marks = omega (arith, h.knows.scoped.count, ap length (h.knows.scoped.locals_are (asks lookup)), length-take walk.scope.count walk.scope.names, h.knows.definitions)

@@ -10,6 +10,7 @@ use Rattle.model.specs.Sites.{Scope, Variable, Definition}
 use Rattle.model.specs.Words.{whole_of, decimal_of}
 use Rattle.model.specs.Limits.{local_limit, count_limit}
 use Rattle.model.specs.Good.{scale_limit}
+use Rattle.model.specs.Scope.{scope_width}
 use Rattle.model.specs.Given.{Meaning, is_given, place_in, meaning, definition_named}
 use Rattle.model.specs.Resolved
 use Rattle.model.specs.Resolved.{is_channel_name, firsts, or_zero, definition_number, number_scale, value_named, scale_named}
@@ -69,7 +70,7 @@ pub record Point : Type 0 where
 
 -- what a sum at this point has: its locals, and its definition (model: Scope)
 abbrev pub scope_at : Point → ℕ
-scope_at p = length p.scope + p.definitions * 16
+scope_at p = length p.scope + p.definitions * scope_width
 
 -- the parameters of definition n, none past the last
 unfoldable pub params_at : List Definition → ℕ → Scope

@@ -5,11 +5,10 @@ use mathlib.Core.List.{List, [], ◌∷◌, ◌++◌, append_assoc}
 use Prim.Native.Nat.{ℕ, zero, suc, ◌+◌, ◌-◌, ◌*◌, ◌/◌, ◌%◌, ◌≤◌, ◌<◌, ◌^◌}
 use native.Mathlib.Nat.{pow-suc}
 use native.Mathlib.Omega.{arith}
-use borrow.Author.Tests.{eq-eqb, ne_eqb, ltb-true, le-leb, lt-leb, lt-ltb, le-ltb, ltb-false}
+use borrow.Author.Tests.{eq-eqb, ne_eqb, ltb-true, le-leb, lt-ltb, le-ltb, ltb-false}
 use borrow.Rule.Slice.PartMut.{put_mid}
-use lib.Dec.{eqb, leb, ltb, leb-suc-suc}
-use lib.IntN.{ℤ, pos, negsuc, nat_abs}
-use lib.Signed.{lt_z}
+use lib.Dec.{eqb, ltb, leb-suc-suc}
+use lib.IntN.{ℤ, pos}
 use lib.ListN.{length, get_or, take, drop, replicate, drop_of_length-le, length-take, length-drop}
 use native.Mathlib.Numerals.{add-one}
 use lib.Seq.{take_all, take-nil, drop-cons, drop-drop}
@@ -17,12 +16,11 @@ use mir.Syntax.{w64}
 use mir.Val.{to_z}
 use mir.Facts.{to_z_pos}
 use Rattle.value.specs.Arithmetic.{is_same}
-use Rattle.value.proofs.Kit.{true-not-false}
 use Rattle.word.specs.Name.{longest, word_bytes, pack, Name, name_of}
 use Rattle.machine.specs.Saves.{is_letter, is_name, first_of, save_limit, key_width, timed_length, place_width, saves_length}
 use Rattle.state.specs.Test.{every, at, is_zero}
 use Rattle.state.proofs.Tests.{both}
-use Rattle.saves.specs.Keys.{is_word, is_second, is_key, is_key_of, full_word, low_of, high_of, key_numbers}
+use Rattle.saves.specs.Keys.{is_word, is_key_of, low_of, high_of, key_numbers}
 use Rattle.saves.specs.Kept.{is_kept}
 use Rattle.saves.specs.Places.{has_key, is_place, is_once, are_once, places_of, is_saves, kept_part}
 use Rattle.std.specs.Prelude.{Option, None, Some, Ok, Err, is_some}
@@ -31,7 +29,7 @@ use Rattle.std.specs.Option.{ok_or}
 use Rattle.std.specs.List.{position_or_len}
 use Rattle.std.proofs.lemmas.Slice.{take-put_mid, drop-put_mid}
 use Rattle.saves.specs.Change.{below, key_of, place_with, place_to_take, row_at, with_row, saving_numbers, returning_numbers, forgetting_numbers, Stores}
-use Rattle.saves.proofs.Names.{letters_every, letter-is, name-is, every_take, every_drop}
+use Rattle.saves.proofs.Names.{letter-is, name-is, every_take, every_drop}
 
 -- ---- letters
 
@@ -60,67 +58,6 @@ module _ (word w i : ℕ) (e : is_word 8 word ≡ is_word (8 - i) w) where
   unfolding is_word
   word-done h = let k : 8 - i ≡ 0 = omega arith in e ∙ ap (λ (n : ℕ). is_word n w) k
 
-module _ (a b : ℕ) where
-  pub key-none : a ≡ 0 → is_key a b ≡ false
-  unfolding is_key
-  key-none e = rw (lt-leb 1 a (omega arith))
-
-  module _ (h : a ≡ 0 → ⊥) where
-    positive : leb 1 a ≡ true
-    positive = le-leb 1 a (by a h)
-      where
-        by : (a : ℕ) → (a ≡ 0 → ⊥) → 1 ≤ a
-        by zero h = absurd (h refl)
-        by (suc a) h = omega arith
-
-    pub key-fails : is_word 8 a ≡ false → is_key a b ≡ false
-    unfolding is_key
-    key-fails e = rw (positive, e)
-
-    pub key-short : is_word 8 a ≡ true → b ≡ 0 → is_key a b ≡ true
-    unfolding is_key is_second
-    key-short e f = rw (positive, e, eq-eqb b 0 f)
-
-    pub key-gap : is_word 8 a ≡ true → (b ≡ 0 → ⊥) → a < 72057594037927936 → is_key a b ≡ false
-    unfolding is_key is_second
-    key-gap e f g = rw (positive, e, ne_eqb b 0 f, lt-leb full_word a g)
-
-    pub key-second : is_word 8 a ≡ true → (b ≡ 0 → ⊥) → 72057594037927936 ≤ a → is_key a b ≡ is_word 8 b
-    unfolding is_key is_second
-    key-second e f g = rw (positive, e, ne_eqb b 0 f, le-leb full_word a g)
-
-pub key-negative : (y z : ℤ) → lt_z y (pos 0) ≡ true → is_key_of y z ≡ false
-unfolding is_key_of
-key-negative (pos a) z e = absurd (omega (arith, ltb-true a 0 e))
-key-negative (negsuc a) z e = refl
-
-pub key-negative-2 : (y z : ℤ) → lt_z y (pos 0) ≡ false → lt_z z (pos 0) ≡ true → is_key_of y z ≡ false
-unfolding is_key_of
-key-negative-2 (pos a) (pos b) e f = absurd (omega (arith, ltb-true b 0 f))
-key-negative-2 (pos a) (negsuc b) e f = refl
-key-negative-2 (negsuc a) z e f = true-not-false e
-
-pub key-natural : (y z : ℤ) → lt_z y (pos 0) ≡ false → lt_z z (pos 0) ≡ false → is_key_of y z ≡ is_key (nat_abs y) (nat_abs z)
-unfolding is_key_of
-key-natural (pos a) (pos b) e f = refl
-key-natural (pos a) (negsuc b) e f = true-not-false f
-key-natural (negsuc a) z e f = true-not-false e
-
--- ---- names
-
-module _ (n : List ℕ) where
-  pub name-none : length n < 1 → is_name n ≡ false
-  unfolding is_name
-  name-none h = rw (lt-leb 1 (length n) h)
-
-  pub name-long : 1 ≤ length n → longest < length n → is_name n ≡ false
-  unfolding is_name
-  name-long h k = rw (le-leb 1 (length n) h, lt-leb (length n) longest k)
-
-  pub name-letters : 1 ≤ length n → length n ≤ longest → is_name n ≡ every is_letter n
-  unfolding is_name
-  name-letters h k = rw (le-leb 1 (length n) h, le-leb (length n) longest k) (letters_every n)
-
 -- ---- numbers below a number
 
 module _ (n p : ℕ) where
@@ -139,14 +76,6 @@ module _ (n p : ℕ) where
       by : (b : Bool) → ltb p n ≡ b → Some i ≡ cond b (Some p) None → (i ≡ p) × (i < n)
       by true f e = let q : i ≡ p = cc in (q, omega (arith, ltb-true p n f))
       by false f e = cc
-
-  pub below-at : (i : ℕ) → i < n → p ≡ i → Some i ≡ below n p
-  unfolding below
-  below-at i h e = rw (e, lt-ltb i n h)
-
-  pub below-past : n ≤ p → None ≡ below n p
-  unfolding below
-  below-past h = rw (le-ltb p n h)
 
   pub none-below : (r : Option ℕ) (b : Bool) → is_some r ≡ not b → r ≡ below n p → b ≡ not (ltb p n)
   unfolding below
@@ -208,17 +137,6 @@ module _ (rs : List (List ℤ)) (i : ℕ) where
   pub once-done : are_once rs ≡ are_once (drop i rs) → length rs ≤ i → are_once rs ≡ true
   unfolding are_once
   once-done e l = e ∙ ap are_once (drop_of_length-le rs {i = i} l)
-
--- ---- rows with a key
-
-module _ (k r : List ℤ) where
-  pub has-differs : is_same (at r 0) (at k 0) ≡ false → has_key k r ≡ false
-  unfolding has_key
-  has-differs e = rw e
-
-  pub has_rest : is_same (at r 0) (at k 0) ≡ true → has_key k r ≡ is_same (at r 1) (at k 1)
-  unfolding has_key
-  has_rest e = rw e
 
 -- ---- a name's numbers
 

@@ -48,9 +48,6 @@ take_past (x ∷ xs) ys (suc n) k e =
 abbrev pub written : List ℕ → ℕ → List ℕ
 written run i = take i run ++ zeros (depth_limit - i)
 
-pub written_start : (run : List ℕ) → zeros depth_limit ≡ written run 0
-written_start run = refl
-
 pub written-more : (run : List ℕ) (i : ℕ) → i < length run → length run ≡ depth_limit → set (written run i) i (get_or run i 0) ≡ written run (i + 1)
 written-more run i l e =
     let z : zeros (depth_limit - i) ≡ 0 ∷ zeros (depth_limit - (i + 1)) = let d : depth_limit - i ≡ suc (depth_limit - (i + 1)) = omega arith in ap zeros d in

@@ -16,15 +16,14 @@ use Rattle.rules.specs.Pairs.{channel_numbers, Before}
 use Rattle.rules.proofs.Channels.{one-channel, between}
 use Rattle.rules.proofs.Less.{less-irreflexive, less-trans, less-first}
 use Rattle.model.specs.Good.{Every}
-use Rattle.machine.specs.State.{State, padded, pair_numbers, state_numbers, pair_width}
+use Rattle.machine.specs.State.{padded, pair_numbers}
 use Rattle.machine.proofs.Branches.{get_nth}
 use Rattle.machine.proofs.Everys.{every-nth}
-use Rattle.state.specs.Fits.{FewLocals, FitsPair, Fits}
-use Rattle.state.specs.Test.{rows, place_of, pair_part}
+use Rattle.state.specs.Fits.{FitsPair}
+use Rattle.state.specs.Test.{place_of}
 use Rattle.state.proofs.Entries.{pair-shape, get-is}
 use Rattle.state.proofs.Climbs.{climbing}
 use Rattle.state.proofs.Places.{place-more, place-less, place-bound}
-use Rattle.state.proofs.Image.{pair-rows}
 
 -- ---- the order of rows
 less-back : (u v : List ℤ) → less u v ≡ true → less v u ≡ false
@@ -101,9 +100,3 @@ module _ (c : offers.Channel) (channels : ℕ) (L : List offers.Pair) (fits : Ev
               place-less (row_on c 0) rs q inside (ap (λ (l : List ℤ). less l (row_on c 0)) r ∙ less-back (row_on c 0) _ (fewer c 0 n _ _ (omega (arith, f.number.one)))),
               place-more (row_on c 3) rs q (climbing L up) inside (ap (λ (l : List ℤ). less l (row_on c 3)) r ∙ fewer c n 3 _ _ (omega (arith, f.number.two))),
             )
-
--- ---- the run in a state's numbers
-module _ (scopes : List ℕ) (few : FewLocals scopes) (channels : ℕ) (s : State) (fits : Fits scopes channels s) (c : offers.Channel) where
-  pub run-numbers : (q : ℕ) (x : offers.Pair) → get_elem? s.pairs q ≡ some x
-      → let rs = rows pair_width (length s.pairs) (pair_part (state_numbers s)) in ((place_of (row_on c 0) rs ≤ q) × (q < place_of (row_on c 3) rs)) ↔ (x.channel ≡ c)
-  run-numbers q x e = rw (pair-rows scopes few channels s fits) (run-exact c channels s.pairs fits.pairs fits.ascending q x e)

@@ -3,8 +3,7 @@ use Rattle.rules.proofs.Less.{less-irreflexive}
 use mathlib.Core.Path.{◌≡◌, refl, sym, ap, ◌∙◌}
 use mathlib.Core.Bool.{Bool, true, false, not, ◌&&◌, and_assoc, and-true, ◌||◌}
 use mathlib.Core.List.{List, [], ◌∷◌}
-use Prim.Native.Nat.{ℕ, zero, suc, ◌+◌, ◌-◌, ◌*◌, ◌≤◌, ◌<◌}
-use native.Mathlib.Nat.{suc-mul, zero-mul}
+use Prim.Native.Nat.{ℕ, zero, suc, ◌+◌, ◌*◌, ◌≤◌, ◌<◌}
 use native.Mathlib.Numerals.{add-one}
 use native.Mathlib.Omega.{arith}
 use borrow.Author.Tests.{ltb-true, eq-eqb, ne_eqb}
@@ -13,7 +12,7 @@ use lib.Dec.{T, eqb}
 use lib.IntN.{ℤ, pos, negsuc, nat_abs}
 use lib.Signed.{lt_z, non_neg}
 use lib.ListN.{length, get_or, take, drop, drop_of_length-le}
-use lib.Seq.{drop-cons, drop-drop}
+use lib.Seq.{drop-cons}
 use mir.Syntax.{w64}
 use mir.Val.{Fits, SFits, of_z}
 use Rattle.std.specs.List.{list_all}
@@ -210,16 +209,6 @@ module _ {A : Type 0} (t : A → Bool) where
   unfolding every
   every-next s i d l = ap (every t) (drop-cons s i d l) ∙ ap (λ (m : ℕ). t (get_or s i d) && every t (drop m s)) (sym (add-one i))
 
-  pub every-fails : (s : List A) (i : ℕ) (d : A) → i < length s → every t s ≡ every t (drop i s) → t (get_or s i d) ≡ false → every t s ≡ false
-  every-fails s i d l e f = e ∙ every-next s i d l ∙ ap (λ (b : Bool). b && every t (drop (i + 1) s)) f
-
-  pub every-on : (s : List A) (i : ℕ) (d : A) → i < length s → every t s ≡ every t (drop i s) → t (get_or s i d) ≡ true → every t s ≡ every t (drop (i + 1) s)
-  every-on s i d l e f = e ∙ every-next s i d l ∙ ap (λ (b : Bool). b && every t (drop (i + 1) s)) f
-
-  pub every-done : (s : List A) (i : ℕ) → length s ≤ i → every t s ≡ every t (drop i s) → every t s ≡ true
-  unfolding every
-  every-done s i l e = e ∙ ap (every t) (drop_of_length-le s {i = i} l)
-
   -- a member passes where it has no bits, and n gathers those of the members before i
   module _ (s : List A) (i n : ℕ) (e : every t s ≡ (eqb n 0 && every t (drop i s))) where
     pub bits-on : (d : A) (m : ℕ) → i < length s → t (get_or s i d) ≡ eqb m 0 → every t s ≡ (eqb (bit_or n m) 0 && every t (drop (i + 1) s))
@@ -229,36 +218,6 @@ module _ {A : Type 0} (t : A → Bool) where
     pub bits-done : length s ≤ i → eqb n 0 ≡ every t s
     unfolding every
     bits-done l = sym (e ∙ ap (λ (r : List A). eqb n 0 && every t r) (drop_of_length-le s {i = i} l) ∙ and-true (eqb n 0))
-
--- ---- rows
-pub rows_next : (w n i : ℕ) (s : List ℤ) → i < n → rows w (n - i) (drop (i * w) s) ≡ take w (drop (i * w) s) ∷ rows w (n - (i + 1)) (drop ((i + 1) * w) s)
-unfolding rows
-rows_next w n i s l =
-    let e : n - i ≡ suc (n - (i + 1)) = omega arith in
-    let d : drop w (drop (i * w) s) ≡ drop ((i + 1) * w) s = drop-drop w (i * w) s ∙ ap (λ (m : ℕ). drop m s) (sym (ap (λ (m : ℕ). m * w) (add-one i) ∙ suc-mul i w)) in
-    ap (λ (m : ℕ). rows w m (drop (i * w) s)) e ∙ ap (λ (l : List ℤ). take w (drop (i * w) s) ∷ rows w (n - (i + 1)) l) d
-
-pub rows_none : (w n i : ℕ) (s : List ℤ) → n ≤ i → rows w (n - i) s ≡ []
-unfolding rows
-rows_none w n i s l = let e : n - i ≡ 0 = omega arith in ap (λ (m : ℕ). rows w m s) e
-
-pub rows_all : (w n : ℕ) (s : List ℤ) → rows w n s ≡ rows w (n - 0) (drop (0 * w) s)
-rows_all w n s = let e : 0 ≡ 0 * w = sym (zero-mul w) in let k : n ≡ n - 0 = omega arith in ap (λ (m : ℕ). rows w n (drop m s)) e ∙ ap (λ (m : ℕ). rows w m (drop (0 * w) s)) k
-
-module _ (t : List ℤ → Bool) (w n : ℕ) (s : List ℤ) (i : ℕ) (e : every t (rows w n s) ≡ every t (rows w (n - i) (drop (i * w) s))) where
-  rows-test : i < n → every t (rows w n s) ≡ t (take w (drop (i * w) s)) && every t (rows w (n - (i + 1)) (drop ((i + 1) * w) s))
-  unfolding every
-  rows-test l = e ∙ ap (every t) (rows_next w n i s l)
-
-  pub rows-fail : i < n → t (take w (drop (i * w) s)) ≡ false → every t (rows w n s) ≡ false
-  rows-fail l f = rows-test l ∙ ap (λ (b : Bool). b && every t (rows w (n - (i + 1)) (drop ((i + 1) * w) s))) f
-
-  pub rows_on : i < n → t (take w (drop (i * w) s)) ≡ true → every t (rows w n s) ≡ every t (rows w (n - (i + 1)) (drop ((i + 1) * w) s))
-  rows_on l f = rows-test l ∙ ap (λ (b : Bool). b && every t (rows w (n - (i + 1)) (drop ((i + 1) * w) s))) f
-
-  pub rows-done : n ≤ i → every t (rows w n s) ≡ true
-  unfolding every
-  rows-done l = e ∙ ap (every t) (rows_none w n i (drop (i * w) s) l)
 
 -- ---- the order of two rows, number by number
 z-irreflexive : (x : ℤ) → is_less x x ≡ false

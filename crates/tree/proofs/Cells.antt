@@ -24,15 +24,6 @@ module _ {kind token left third : ℕ} (k : kind < 256) (a : token < field) (b :
   unfolding cell third_of
   third_of_lem = omega arith
 
-  pub cell-small : cell kind token left third < 72057594037927936
-  unfolding cell
-  cell-small = omega arith
-
--- cells of fields that fit are one to one
-pub one-to-one : {k a b c k' a' b' c' : ℕ} → k < 256 → a < field → b < field → c < field → k' < 256 → a' < field → b' < field → c' < field → cell k a b c ≡ cell k' a' b' c' → (k ≡ k') × (a ≡ a') × (b ≡ b') × (c ≡ c')
-unfolding cell
-one-to-one x₀ x₁ x₂ x₃ y₀ y₁ y₂ y₃ e = (omega arith, omega arith, omega arith, omega arith)
-
 -- ---- the fields of a node
 module _ {t : List ℕ} {k kind token left third : ℕ} (n : Node t k kind token left third) (h : kind < 256) where
   pub node-kind : kind_of (get_or t k 0) ≡ kind

@@ -36,8 +36,8 @@ pub fn open_lent(profile: Profile, text: &[u8], model: &mut [u8], state: &mut [i
         Err(refusal) => Answer::from(Refusal::from(refusal)),
         Ok(accepted) => {
             let found = accepted.model;
-            store::buffer::put_text(model, text);
-            store::start::open_state(space.tables(found), found.lists.definitions, state);
+            let tables = space.tables(found);
+            store::buffer::put_opened(tables, found.lists.definitions, text, model, state);
             Answer::bare(0, 0, 0)
         }
     }

@@ -34,7 +34,7 @@ use Rattle.eval.proofs.Rows.{Few, filled, rows_then}
 sum-few : (m : Resolved.Model) → GoodModel m → (n k : ℕ) → SumWith m n k → n ≤ local_limit
 sum-few m g n k s = omega (arith, (every-nth (GoodSum m) g.sums (get_nth m.sums k s.exists)).few, s.scope)
 
-processes-few : (m : Resolved.Model) → GoodModel m → (ps : List Process) → Every (GoodProcess m) ps → Few ps
+pub processes-few : (m : Resolved.Model) → GoodModel m → (ps : List Process) → Every (GoodProcess m) ps → Few ps
 unfolding Every
 processes-few m g [] h = tt
 processes-few m g (p ∷ ps) h = (sum-few m g (length p.locals) p.sum h.0.sum, processes-few m g ps h.1)
@@ -60,12 +60,12 @@ module _ (m : Resolved.Model) (good : GoodModel m) (scopes : List ℕ) (c : Scop
       let e : definition_in (get_or scopes n 0) ≡ s.sum.definition = ap definition_in (c.are n s.sum s.exists) ∙ definition-in s.sum few in
       rw (s.exists, e)
 
-  sums-below : (l : ℕ) (ns : List ℕ) → Every (SumWith m l) ns → Every (λ (n : ℕ). n < length scopes) ns
+  pub sums-below : (l : ℕ) (ns : List ℕ) → Every (SumWith m l) ns → Every (λ (n : ℕ). n < length scopes) ns
   unfolding Every
   sums-below l [] h = tt
   sums-below l (n ∷ ns) h = (sum_below l n h.0, sums-below l ns h.1)
 
-  sums-known : (l : ℕ) (ns : List ℕ) → Every (SumWith m l) ns → (vs : List ℤ) → map (λ (n : ℕ). machine.process_at m n vs) ns ≡ become.entered scopes ns vs
+  pub sums-known : (l : ℕ) (ns : List ℕ) → Every (SumWith m l) ns → (vs : List ℤ) → map (λ (n : ℕ). machine.process_at m n vs) ns ≡ become.entered scopes ns vs
   unfolding Every become.entered
   sums-known l [] h vs = refl
   sums-known l (n ∷ ns) h vs = ap₂ (λ (p : Process) (ps : List Process). p ∷ ps) (sum-known l n h.0 vs) (sums-known l ns h.1 vs)

@@ -150,9 +150,9 @@ fn put_arguments(context: Context, k: usize, values: &mut [i64], at: usize)
 
 // The rows that are lent to be written, and the number of the next one. Each method promises that the same rows stay lent.
 #[derive(Drop)]
-struct Rows<'a> {
-    fresh: &'a mut [i64],
-    next: usize,
+pub struct Rows<'a> {
+    pub fresh: &'a mut [i64],
+    pub next: usize,
 }
 
 impl Rows<'_> {
@@ -168,9 +168,8 @@ impl Rows<'_> {
         self.next += 1;
     }
 
-    // Writes a process for each sum at k. `store::start::push_sums` walks alike, but adds to a state: a walk over a trait for both would want a law that says
-    // of rows and of a state what each adds, longer than the walk.
-    fn put_sums(&mut self, tables: Tables, k: usize, locals: &[i64])
+    // Writes a process for each sum at k, all with these locals: of a continuation's call, or of an item of the system line.
+    pub fn put_sums(&mut self, tables: Tables, k: usize, locals: &[i64])
         requires { (Become.SumsFit tables.nodes.now (length tables.scopes.now) k (length self.old.fresh.now) self.old.next) × (length locals.now ≤ local_limit) }
         ensures same { self.new.fresh.ghost_name ≡ self.old.fresh.ghost_name }
         ensures written { (ns : List ℕ) → Represents.Sums tables.entry.nodes.now ns k → Become.Rows self.old.fresh.now self.old.next (Become.entered tables.entry.scopes.now ns locals.now) self.new.fresh.now self.new.next }

@@ -63,7 +63,7 @@ module _ (m : Resolved.Model) (good : GoodModel m) where
   copies-good zero ps h = tt
   copies-good (suc n) ps h = every_append (GoodProcess m) ps (copies n ps) h (copies-good n ps h)
 
-  starts-good : (ss : List Resolved.Start) → Every (GoodStart m) ss → Every (GoodProcess m) (start_processes m ss)
+  pub starts-good : (ss : List Resolved.Start) → Every (GoodStart m) ss → Every (GoodProcess m) (start_processes m ss)
   unfolding start_processes Every
   starts-good [] h = tt
   starts-good (s ∷ ss) h =

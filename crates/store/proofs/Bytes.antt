@@ -3,15 +3,16 @@ use mathlib.Core.Path.{◌≡◌, refl, sym, ap, ap₂, ◌∙◌}
 use mathlib.Core.List.{List, [], ◌∷◌, ◌++◌}
 use mathlib.Core.Bool.{Bool, true, false, cond, ◌&&◌, and-true}
 use mathlib.Core.Option.{Option, none}
-use Prim.Native.Nat.{ℕ, zero, suc, ◌+◌, ◌-◌, ◌/◌, ◌%◌, ◌≤◌, ◌<◌}
+use Prim.Native.Nat.{ℕ, suc, ◌+◌, ◌-◌, ◌/◌, ◌%◌, ◌≤◌, ◌<◌}
 use native.Mathlib.Numerals.{add-one}
 use native.Mathlib.Omega.{arith}
 use lib.Bits.{bit_or}
 use lib.Dec.{eqb, leb}
-use lib.ListN.{length, get_or, set, take, drop, replicate, length-take, length-drop, length-replicate, replicate-append-replicate, drop_of_length-le}
-use lib.Seq.{drop-cons, take_all, drop_at, drop-drop}
+use lib.ListN.{length, get_or, take, drop, replicate, length-append, length-take, length-drop, length-replicate, replicate-append-replicate, drop_of_length-le}
+use lib.Seq.{drop-cons, take_all, drop-drop}
 use borrow.Author.Tests.{le-leb, lt-leb}
 use borrow.Rule.Slice.PartMut.{put_mid}
+use Rattle.std.proofs.lemmas.List.{drop-replicate}
 use Rattle.token.specs.Questions.{text_limit}
 use Rattle.model.specs.Resolved.{Model}
 use Rattle.model.specs.Held.{held}
@@ -34,43 +35,37 @@ module _ (s : List ℕ) (n i : ℕ) (e : zeros s ≡ (eqb n 0 && zeros (drop i s
   zeros-done l = sym (e ∙ ap (λ (t : List ℕ). eqb n 0 && zeros t) (drop_of_length-le s {i = i} l) ∙ and-true (eqb n 0))
 
 -- ---- cleared buffers
-drop-same : {A : Type 0} (z : A) (k n : ℕ) → k ≤ n → drop k (replicate n z) ≡ replicate (n - k) z
-drop-same z k n h =
-    let e : k + (n - k) ≡ n = omega arith in
-    ap (λ (i : ℕ). drop k (replicate i z)) (sym e) ∙ ap (drop k) (sym (replicate-append-replicate k (n - k) z)) ∙ drop_at (replicate k z) (replicate (n - k) z) k (length-replicate k z)
+
+-- zeros have room for a header, also with a part after it rewritten
+pub header-room : {A : Type 0} (n k : ℕ) (s g : List A) (z : A) → 2 ≤ n → s ≡ replicate n z → (2 ≤ length s) × (2 ≤ length (put_mid 2 k s g))
+header-room {A} n k s g z h e =
+    let l : length s ≡ n = ap length e ∙ length-replicate n z in
+    (omega (arith, l), before (take 2 s) (g ++ drop k (drop 2 s)) (simp length-take (omega (arith, l))))
+  where
+    before : (a b : List A) → 2 ≤ length a → 2 ≤ length (a ++ b)
+    before a b h = omega (arith, h, length-append a b)
 
 -- 01, Fresh: a header of zeros over zeros
-pub fresh-header : {A : Type 0} (n : ℕ) (k x : List A) (z a b : A) → 2 ≤ n → k ≡ replicate n z → x ≡ a ∷ b ∷ drop 2 k → a ≡ z → b ≡ z → x ≡ replicate n z
-fresh-header {A} n k x z a b q e f g h =
+pub fresh-header : {A : Type 0} (n : ℕ) (x : List A) (z : A) → 2 ≤ n → x ≡ z ∷ z ∷ drop 2 (replicate n z) → x ≡ replicate n z
+fresh-header {A} n x z h e =
     let r : 2 + (n - 2) ≡ n = omega arith in
-    f ∙ rw (g, h, e) (ap (λ (l : List A). z ∷ z ∷ l) (drop-same z 2 n q) ∙ replicate-append-replicate 2 (n - 2) z ∙ ap (λ (i : ℕ). replicate i z) r)
-
-set-same : {A : Type 0} (z : A) (n i : ℕ) → set (replicate n z) i z ≡ replicate n z
-set-same z zero i = refl
-set-same z (suc n) zero = refl
-set-same z (suc n) (suc i) = ap (λ (l : List _). z ∷ l) (set-same z n i)
-
-pub fresh-count : {A : Type 0} (n i : ℕ) (k x : List A) (z a : A) → k ≡ replicate n z → x ≡ set k i a → a ≡ z → x ≡ replicate n z
-fresh-count n i k x z a e f g = f ∙ rw (g, e) (set-same z n i)
-
-drop-zeros : (k n : ℕ) → k ≤ n → drop k (replicate {A = ℕ} n 0) ≡ replicate (n - k) 0
-drop-zeros k n h = drop-same 0 k n h
+    e ∙ ap (λ (l : List A). z ∷ z ∷ l) (drop-replicate 2 n z) ∙ replicate-append-replicate 2 (n - 2) z ∙ ap (λ (i : ℕ). replicate i z) r
 
 -- ---- a text in a cleared buffer
 
-pub text-put : (text m h ys : List ℕ) → m ≡ replicate model_length 0 → length text ≤ text_limit → h ≡ length text % 256 ∷ length text / 256 ∷ []
+pub text-put : (text m h ys : List ℕ) → m ≡ replicate model_length 0 → h ≡ length text % 256 ∷ length text / 256 ∷ []
     → ys ≡ text → put_mid 2 (2 + length text - 2) (h ++ drop 2 m) ys ≡ model_bytes text
 unfolding model_bytes
-text-put text m h ys c l e f =
+text-put text m h ys c e f =
     let a : ℕ = length text % 256 in
     let b : ℕ = length text / 256 in
     let k : 2 + length text - 2 ≡ length text = omega arith in
-    let q : h ++ drop 2 m ≡ a ∷ b ∷ replicate text_limit 0 = ap₂ (λ (g r : List ℕ). g ++ r) e (ap (drop 2) c ∙ drop-zeros 2 model_length (omega arith)) in
+    let q : h ++ drop 2 m ≡ a ∷ b ∷ replicate text_limit 0 = ap₂ (λ (g r : List ℕ). g ++ r) e (ap (drop 2) c ∙ drop-replicate 2 model_length 0) in
     let x : List ℕ = h ++ drop 2 m in
     ap (λ (r : List ℕ). take 2 x ++ (r ++ drop (2 + length text - 2) (drop 2 x))) f
     ∙ ap (λ (n : ℕ). take 2 x ++ (text ++ drop n (drop 2 x))) k
     ∙ ap (λ (r : List ℕ). take 2 r ++ (text ++ drop (length text) (drop 2 r))) q
-    ∙ ap (λ (r : List ℕ). a ∷ b ∷ (text ++ r)) (drop-zeros (length text) text_limit l)
+    ∙ ap (λ (r : List ℕ). a ∷ b ∷ (text ++ r)) (drop-replicate (length text) text_limit 0)
 
 -- ---- the text in a buffer
 module _ (bs : List ℕ) (n : ℕ) (e : n ≡ length_in bs) where

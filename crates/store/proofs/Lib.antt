@@ -1,5 +1,5 @@
 -- Laws that the proofs of the functions on an engine's buffers cite.
-pub mod Towards
+pub mod Copies
 pub mod Nodes
 pub mod Opened
 pub mod Bytes

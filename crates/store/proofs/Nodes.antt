@@ -1,110 +1,51 @@
--- What stands at the nodes of sums, whole numbers and items, by the kind of the node. From the tables' definitions.
-use mathlib.Core.Path.{◌≡◌, sym, ap, subst, ◌∙◌, refl, ap₂}
-use mathlib.Core.List.{List, [], ◌∷◌, ◌++◌, append-nil, map}
+-- What stands at the nodes of whole numbers and items, by the kind of the node, and the rows that are written for it. From the tables' definitions and the laws of rows.
+use mathlib.Core.Path.{◌≡◌, ap, subst, ◌∙◌}
+use mathlib.Core.List.{List, [], ◌∷◌, ◌++◌, append-nil}
 use mathlib.Core.Option.{Option-elim}
 use Prim.Native.Nat.{ℕ, ◌+◌, ◌-◌, ◌≤◌, ◌<◌}
 use native.Mathlib.Omega.{arith}
 use native.Mathlib.Numerals.{add-one}
 use lib.IntN.{ℤ}
-use lib.ListN.{length, get_or, set, take}
+use lib.ListN.{length, get_or, set, take, length-append, length-map}
 use lib.Seq.{sets}
 use Rattle.std.specs.Prelude.{Some}
 use Rattle.tree.specs.Node.{kind_of, token_of, left_of, third_of}
 use Rattle.value.specs.Range.{InRange, Value}
 use Rattle.model.specs.Resolved
-use Rattle.model.specs.Good.{Every, GoodExpr, GoodDefined, GoodStart, GoodModel, GoodSum, SumWith}
+use Rattle.model.specs.Good.{Every, GoodExpr, GoodDefined, GoodStart, GoodModel, SumWith}
 use Rattle.model.specs.Limits.{local_limit}
 use Rattle.tables.specs.Settled.{Number, Expr}
 use Rattle.tables.specs.Represents.{Sums, Wholes, Start, bare, valued, Starts}
 use Rattle.tables.proofs.Numbers.{node-number-kind}
 use Rattle.machine.specs.Evaluate.{eval_expr}
 use Rattle.eval.specs.Held.{Held, Worth}
-use Rattle.eval.proofs.Rows.{filled}
+use Rattle.eval.proofs.Rows.{Few, filled, rows_then, rows-size}
+use Rattle.eval.proofs.Puts.{processes-few, sums-below, sums-known}
 use Rattle.tables.proofs.Parts.{pair-above, pair-second}
-use Rattle.machine.specs.Offer.{Process, called, process_at, definition_of}
+use Rattle.machine.specs.Offer.{called}
 use Rattle.machine.specs.Machine.{copies, start_processes}
 use Rattle.machine.proofs.Branches.{get_nth}
 use Rattle.machine.proofs.Everys.{every-nth}
-use Rattle.state.specs.Change.{process_pushed}
-use Rattle.model.specs.Scope.{definition_in}
-use Rattle.model.proofs.Scope.{definition-in}
-use Rattle.rules.proofs.Inside.{nth_inside}
-use Rattle.eval.specs.Next.{entered, Defines, Scoped, known as known_as}
-use Rattle.store.specs.Start.{Adds, Roomy, SumsFit, CopiesFit, WholesFit, Items, only, ItemFits, ItemsFit}
-use Rattle.store.proofs.Towards.{Takes, adds_one, adds_then, roomy-takes, roomy-first, roomy_after, copies-more, copies-left}
-
--- ---- sums
-module _ (t : List ℕ) (k : ℕ) where
-  pub last_sum : (kind_of (get_or t k 0) ≡ 55 → ⊥) → (ns : List ℕ) → Sums t ns k → ns ≡ token_of (get_or t k 0) ∷ []
-  unfolding Sums
-  last_sum h [] a = absurd a
-  last_sum h (n ∷ []) a = ap (λ (x : ℕ). x ∷ []) (sym a.index_is)
-  last_sum h (n ∷ o ∷ ns) a = absurd (h a.kind-is)
-
-  -- the first, and the rest at the node before
-  pub record Several (ns : List ℕ) : Type 0 where
-    pub rest : List ℕ
-    pub is : ns ≡ token_of (get_or t (left_of (get_or t k 0)) 0) ∷ rest
-    pub above : 1 ≤ k
-    pub holds : Sums t rest (k - 1)
-
-  pub more-sums : kind_of (get_or t k 0) ≡ 55 → (ns : List ℕ) → Sums t ns k → Several ns
-  unfolding Sums
-  more-sums h [] a = absurd a
-  more-sums h (n ∷ []) a = absurd (omega (arith, a.kind-is))
-  more-sums h (n ∷ o ∷ ns) a = record { rest = o ∷ ns; is = ap (λ (x : ℕ). x ∷ o ∷ ns) (sym a.holds-first.index_is); above = pair-above a; holds = pair-second a }
-
-module _ (t known : List ℕ) (k : ℕ) (ls zs : List ℤ) where
-  -- the process that stands for the sum at a node
-  abbrev pub at_node : ℕ → Process
-  at_node j = known_as known (token_of (get_or t j 0)) ls
-
-  pub sums-take : SumsFit t known k ls zs → Takes zs ls
-  unfolding Sums entered known_as
-  sums-take f = go f.sums f.holds f.room
-    where
-      go : (ns : List ℕ) → Sums t ns k → Roomy (entered known ns ls) zs → Takes zs ls
-      go [] a r = absurd a
-      go (n ∷ ns) a r = roomy-takes (known_as known n ls) (entered known ns ls) zs r
-
-  -- the numbers of its sums are known of
-  pub last-below : (kind_of (get_or t k 0) ≡ 55 → ⊥) → SumsFit t known k ls zs → token_of (get_or t k 0) < length known
-  unfolding Every
-  last-below h f = (rw (last_sum t k h f.sums f.holds) at f.below).0
-
-  pub first_below : kind_of (get_or t k 0) ≡ 55 → SumsFit t known k ls zs → token_of (get_or t (left_of (get_or t k 0)) 0) < length known
-  unfolding Every
-  first_below h f = (rw (more-sums t k h f.sums f.holds).is at f.below).0
-
-  pub last-adds : (kind_of (get_or t k 0) ≡ 55 → ⊥) → (ys : List ℤ) → ys ≡ process_pushed (token_of (get_or t k 0)) ls (definition_in (get_or known (token_of (get_or t k 0)) 0)) zs → (ns : List ℕ) → Sums t ns k → Adds (entered known ns ls) zs ys
-  unfolding entered known_as
-  last-adds h ys e ns a = rw (last_sum t k h ns a) (adds_one (at_node k) zs ys e)
-
-  module _ (h : kind_of (get_or t k 0) ≡ 55) (xs : List ℤ) (e : xs ≡ process_pushed (token_of (get_or t (left_of (get_or t k 0)) 0)) ls (definition_in (get_or known (token_of (get_or t (left_of (get_or t k 0)) 0)) 0)) zs) where
-    pub rest-fits : SumsFit t known k ls zs → (1 ≤ k) × SumsFit t known (k - 1) ls xs
-    unfolding entered known_as Every
-    rest-fits f =
-        let s = more-sums t k h f.sums f.holds in
-        let p = at_node (left_of (get_or t k 0)) in
-        (s.above, record { sums = s.rest; holds = s.holds; below = (rw s.is at f.below).1; room = roomy_after (p ∷ []) (entered known s.rest ls) (adds_one p zs xs e) (rw s.is at f.room) })
-
-    pub more-adds : (ys : List ℤ) → ((ns : List ℕ) → Sums t ns (k - 1) → Adds (entered known ns ls) xs ys) → (ns : List ℕ) → Sums t ns k → Adds (entered known ns ls) zs ys
-    unfolding entered known_as
-    more-adds ys w ns a =
-        let s = more-sums t k h ns a in
-        let p = at_node (left_of (get_or t k 0)) in
-        rw s.is (adds_then (p ∷ []) (entered known s.rest ls) (adds_one p zs xs e) (w s.rest s.holds))
+use Rattle.machine.proofs.Stays.{starts-good}
+use Rattle.eval.specs.Next.{Rows, SumsFit, entered, Defines, Scoped, known as known_as}
+use Rattle.store.specs.Start.{CopiesFit, WholesFit, Items, only, ItemFits, ItemsFit}
+use Rattle.store.proofs.Copies.{copies-more, copies-left, copies-few, entered-few}
 
 -- ---- copies
-module _ (t known : List ℕ) (k : ℕ) (ls zs ys : List ℤ) (count i : ℕ) (w : (ns : List ℕ) → Sums t ns k → Adds (copies i (entered known ns ls)) zs ys) where
-  pub copy-fits : i < count → CopiesFit t known k ls zs count → SumsFit t known k ls ys
-  copy-fits l f =
-      let x = entered known f.sums ls in
-      let e = copies-left count i x l in
-      record { sums = f.sums; holds = f.holds; below = f.below; room = roomy-first x (copies (count - i - 1) x) ys (roomy_after (copies i x) (x ++ copies (count - i - 1) x) (w f.sums f.holds) (rw e at f.room)) }
+module _ (t known : List ℕ) (k : ℕ) (ls f g : List ℤ) (count at r i : ℕ) (w : (ns : List ℕ) → Sums t ns k → Rows f at (copies i (entered known ns ls)) g r) where
+  pub copy-fits : i < count → CopiesFit t known k ls count (length f) at → SumsFit t (length known) k (length g) r
+  unfolding entered
+  copy-fits l c =
+      let x = entered known c.sums ls in
+      let y = copies (count - i - 1) x in
+      let v = w c.sums c.holds in
+      let e = ap length (copies-left count i x l) in
+      record { sums = c.sums; holds = c.holds; below = c.below; fits = omega (arith, c.fits, e, v.next, rows-size v, length-append (copies i x) (x ++ y), length-append x y, length-map c.sums (λ (n : ℕ). known_as known n ls)) }
 
-  pub copy-adds : (xs : List ℤ) → ((ns : List ℕ) → Sums t ns k → Adds (entered known ns ls) ys xs) → (ns : List ℕ) → Sums t ns k → Adds (copies (i + 1) (entered known ns ls)) zs xs
-  copy-adds xs v ns a = rw (copies-more i (entered known ns ls)) (adds_then (copies i (entered known ns ls)) (entered known ns ls) (w ns a) (v ns a))
+  pub copy-puts : length ls ≤ local_limit → (h : List ℤ) (n : ℕ) → ((ns : List ℕ) → Sums t ns k → Rows g r (entered known ns ls) h n) → (ns : List ℕ) → Sums t ns k → Rows f at (copies (i + 1) (entered known ns ls)) h n
+  copy-puts few h n v ns a =
+      let x = entered known ns ls in
+      rw (copies-more i x) (rows_then f g h at r n (copies i x) x (copies-few i x (entered-few known ns ls few)) (w ns a) (v ns a))
 
 -- ---- whole numbers
 module _ (t : List ℕ) (k : ℕ) where
@@ -166,10 +107,6 @@ module _ (t : List ℕ) (k : ℕ) where
   item-third s (bare i e) = i.values-are
   item-third s (valued v) = v.item.values-are
 
-  pub bare-values : (kind_of (get_or t k 0) ≡ 58 → ⊥) → (v : List ℤ) (s : Resolved.Start) → Start t s k → take (third_of (get_or t k 0)) v ≡ s.values
-  bare-values h v s (bare i e) = rw (i.values-are, e)
-  bare-values h v s (valued w) = absurd (h w.item.kind-is)
-
   module _ (h : kind_of (get_or t k 0) ≡ 58) where
     pub values-at : (s : Resolved.Start) → Start t s k → (1 ≤ k) × Wholes t s.values (k - 1)
     values-at s (bare i e) = absurd (omega (arith, i.kind-is))
@@ -179,25 +116,6 @@ module _ (t : List ℕ) (k : ℕ) where
 
     pub values-put : (v g : List ℤ) → length v ≡ 8 → third_of (get_or t k 0) ≤ 8 → ((zs : List ℤ) → Wholes t zs (k - 1) → g ≡ sets v 0 zs) → (s : Resolved.Start) → Start t s k → take (third_of (get_or t k 0)) g ≡ s.values
     values-put v g l f u s a = let q = item-third s a in rw (q, u s.values (values-at s a).1) (filled v s.values (omega arith))
-
--- ---- what is known of sums (as in eval: Puts)
-module _ (m : Resolved.Model) (good : GoodModel m) (known : List ℕ) (c : Scoped known m) where
-  sums-below : (l : ℕ) (ns : List ℕ) → Every (SumWith m l) ns → Every (λ (n : ℕ). n < length known) ns
-  unfolding Every
-  sums-below l [] h = tt
-  sums-below l (n ∷ ns) h = (omega (arith, nth_inside (get_nth m.sums n h.0.exists), c.fit), sums-below l ns h.1)
-
-  sum-known : (l n : ℕ) → SumWith m l n → (vs : List ℤ) → process_at m n vs ≡ known_as known n vs
-  unfolding process_at definition_of known_as Option-elim
-  sum-known l n s vs =
-      let few = (every-nth (GoodSum m) good.sums (get_nth m.sums n s.exists)).few in
-      let e : definition_in (get_or known n 0) ≡ s.sum.definition = ap definition_in (c.are n s.sum s.exists) ∙ definition-in s.sum few in
-      rw (s.exists, e)
-
-  sums-known : (l : ℕ) (ns : List ℕ) → Every (SumWith m l) ns → (vs : List ℤ) → map (λ (n : ℕ). process_at m n vs) ns ≡ entered known ns vs
-  unfolding Every entered
-  sums-known l [] h vs = refl
-  sums-known l (n ∷ ns) h vs = ap₂ (λ (p : Process) (ps : List Process). p ∷ ps) (sum-known l n h.0 vs) (sums-known l ns h.1 vs)
 
 -- ---- an item's processes
 module _ (t : List ℕ) (root variables k : ℕ) (known : List ℕ) where
@@ -241,97 +159,102 @@ module _ (t : List ℕ) (root variables k : ℕ) (known : List ℕ) where
       item-processes g c = rw (h.callable.exists, item_count) (append-nil _ ∙ ap (copies s.count) (sums-known m g known c h.callable.definition.params h.callable.definition.sums (item-sums g) s.values))
 
   -- what is lent of the array, where its values are those of whatever item stands there
-  pub item-copies : (v zs : List ℤ) → ((s : Resolved.Start) → Start t s k → v ≡ s.values) → ItemFits t known root variables k zs → CopiesFit t known body_at v zs (left_of (get_or t k 0))
+  pub item-copies : (v : List ℤ) (size at : ℕ) → ((s : Resolved.Start) → Start t s k → v ≡ s.values) → ItemFits t known root variables k size at → CopiesFit t known body_at v (left_of (get_or t k 0)) size at
   unfolding Every
-  item-copies v zs w f =
+  item-copies v size at w f =
       let m = f.model in
       let s = f.start in
       let h = f.items.fit.0 in
       let e = item-processes m s f.holds f.items.defines h f.items.good f.items.scoped in
       let below = sums-below m f.items.good known f.items.scoped h.callable.definition.params h.callable.definition.sums (item-sums m s f.holds f.items.defines h f.items.good) in
-      record { sums = h.callable.definition.sums; holds = body-sums m s f.holds f.items.defines h; below = below; room = rw (w s f.holds) (rw e at f.items.room) }
+      record { sums = h.callable.definition.sums; holds = body-sums m s f.holds f.items.defines h; below = below; few = rw (w s f.holds) (few-values m s f.holds f.items.good h); fits = rw (w s f.holds) (rw e at f.items.fits) }
 
-  pub item-adds : (v zs ys : List ℤ) → ((s : Resolved.Start) → Start t s k → v ≡ s.values) → ((ns : List ℕ) → Sums t ns body_at → Adds (copies (left_of (get_or t k 0)) (entered known ns v)) zs ys)
-      → (m : Resolved.Model) (s : Resolved.Start) → Defines t root variables m → GoodModel m → Scoped known m → GoodStart m s → Start t s k → Adds (start_processes m (only s)) zs ys
-  item-adds v zs ys w u m s d g c h a = rw (item-processes m s a d h g c, ← w s a) (u h.callable.definition.sums (body-sums m s a d h))
+  pub item-puts : (v f g : List ℤ) (at r : ℕ) → ((s : Resolved.Start) → Start t s k → v ≡ s.values) → ((ns : List ℕ) → Sums t ns body_at → Rows f at (copies (left_of (get_or t k 0)) (entered known ns v)) g r)
+      → (m : Resolved.Model) (s : Resolved.Start) → Defines t root variables m → GoodModel m → Scoped known m → GoodStart m s → Start t s k → Rows f at (start_processes m (only s)) g r
+  item-puts v f g at r w u m s d q c h a = rw (item-processes m s a d h q c, ← w s a) (u h.callable.definition.sums (body-sums m s a d h))
 
 -- ---- the items of the system line
-module _ (t : List ℕ) (root variables k : ℕ) (zs : List ℤ) (known : List ℕ) where
-  pub last-item : (kind_of (get_or t k 0) ≡ 62 → ⊥) → ItemsFit t known root variables k zs → ItemFits t known root variables k zs
+split : (m : Resolved.Model) (s : Resolved.Start) (ss : List Resolved.Start) → start_processes m (s ∷ ss) ≡ start_processes m (only s) ++ start_processes m ss
+unfolding start_processes
+split m s ss = rw (append-nil (copies s.count (called m s.definition s.values)))
+
+split-length : (m : Resolved.Model) (s : Resolved.Start) (ss : List Resolved.Start) → length (start_processes m (s ∷ ss)) ≡ length (start_processes m (only s)) + length (start_processes m ss)
+split-length m s ss = ap length (split m s ss) ∙ length-append (start_processes m (only s)) (start_processes m ss)
+
+-- the processes of items have few locals
+pub start-few : (m : Resolved.Model) → GoodModel m → (ss : List Resolved.Start) → Every (GoodStart m) ss → Few (start_processes m ss)
+start-few m g ss h = processes-few m g (start_processes m ss) (starts-good m g ss h)
+
+module _ (t : List ℕ) (root variables k : ℕ) (known : List ℕ) where
+  pub last-item : (kind_of (get_or t k 0) ≡ 62 → ⊥) → (size at : ℕ) → ItemsFit t known root variables k size at → ItemFits t known root variables k size at
   unfolding Starts
-  last-item h f = go f.starts f.holds f.items
+  last-item h size at f = go f.starts f.holds f.items
     where
-      go : (ss : List Resolved.Start) → Starts t ss k → Items t known root variables f.model ss zs → ItemFits t known root variables k zs
+      go : (ss : List Resolved.Start) → Starts t ss k → Items t known root variables f.model ss size at → ItemFits t known root variables k size at
       go [] a i = absurd a
       go (s ∷ []) a i = record { model = f.model; start = s; holds = a; items = i }
       go (s ∷ r ∷ ss) a i = absurd (h a.kind-is)
 
-  -- what an item's processes make of the numbers, whatever model it is an item of
-  abbrev pub ItemAdds : ℕ → List ℤ → Type 0
-  ItemAdds j ys = (m : Resolved.Model) (s : Resolved.Start) → Defines t root variables m → GoodModel m → Scoped known m → GoodStart m s → Start t s j → Adds (start_processes m (only s)) zs ys
+  -- what an item's processes make of the rows, whatever model it is an item of
+  abbrev pub ItemPuts : ℕ → List ℤ → ℕ → List ℤ → ℕ → Type 0
+  ItemPuts j f at g r = (m : Resolved.Model) (s : Resolved.Start) → Defines t root variables m → GoodModel m → Scoped known m → GoodStart m s → Start t s j → Rows f at (start_processes m (only s)) g r
 
-  abbrev pub ItemsAdd : ℕ → List ℤ → List ℤ → Type 0
-  ItemsAdd j xs ys = (m : Resolved.Model) (ss : List Resolved.Start) → Defines t root variables m → GoodModel m → Scoped known m → Every (GoodStart m) ss → Starts t ss j → Adds (start_processes m ss) xs ys
+  abbrev pub ItemsPut : ℕ → List ℤ → ℕ → List ℤ → ℕ → Type 0
+  ItemsPut j f at g r = (m : Resolved.Model) (ss : List Resolved.Start) → Defines t root variables m → GoodModel m → Scoped known m → Every (GoodStart m) ss → Starts t ss j → Rows f at (start_processes m ss) g r
 
-  pub last-items : (kind_of (get_or t k 0) ≡ 62 → ⊥) → (ys : List ℤ) → ItemAdds k ys → ItemsAdd k zs ys
+  pub last-items : (kind_of (get_or t k 0) ≡ 62 → ⊥) → (f g : List ℤ) (at r : ℕ) → ItemPuts k f at g r → ItemsPut k f at g r
   unfolding Starts Every
-  last-items h ys w m [] d q c g a = absurd a
-  last-items h ys w m (s ∷ []) d q c g a = w m s d q c g.0 a
-  last-items h ys w m (s ∷ r ∷ ss) d q c g a = absurd (h a.kind-is)
+  last-items h f g at r w m [] d q c o a = absurd a
+  last-items h f g at r w m (s ∷ []) d q c o a = w m s d q c o.0 a
+  last-items h f g at r w m (s ∷ u ∷ ss) d q c o a = absurd (h a.kind-is)
 
   start-kind : (s : Resolved.Start) → Start t s k → kind_of (get_or t k 0) ≡ 62 → ⊥
   start-kind s (bare i e) h = omega (arith, i.kind-is)
   start-kind s (valued v) h = omega (arith, v.item.kind-is)
 
-  split : (m : Resolved.Model) (s : Resolved.Start) (ss : List Resolved.Start) → start_processes m (s ∷ ss) ≡ start_processes m (only s) ++ start_processes m ss
-  unfolding start_processes
-  split m s ss = rw (append-nil (copies s.count (called m s.definition s.values)))
-
   module _ (h : kind_of (get_or t k 0) ≡ 62) where
-    pub first-item : ItemsFit t known root variables k zs → ItemFits t known root variables (left_of (get_or t k 0)) zs
+    pub first-item : (size at : ℕ) → ItemsFit t known root variables k size at → ItemFits t known root variables (left_of (get_or t k 0)) size at
     unfolding Starts Every
-    first-item f = go f.starts f.holds f.items
+    first-item size at f = go f.starts f.holds f.items
       where
-        go : (ss : List Resolved.Start) → Starts t ss k → Items t known root variables f.model ss zs → ItemFits t known root variables (left_of (get_or t k 0)) zs
+        go : (ss : List Resolved.Start) → Starts t ss k → Items t known root variables f.model ss size at → ItemFits t known root variables (left_of (get_or t k 0)) size at
         go [] a i = absurd a
         go (s ∷ []) a i = absurd (start-kind s a h)
         go (s ∷ r ∷ ss) a i = record {
           model = f.model;
           start = s;
           holds = a.holds-first;
-          items = record { good = i.good; defines = i.defines; scoped = i.scoped; fit = (i.fit.0, tt); room = roomy-first (start_processes f.model (only s)) (start_processes f.model (r ∷ ss)) zs (rw (split f.model s (r ∷ ss)) at i.room) };
+          items = record { good = i.good; defines = i.defines; scoped = i.scoped; fit = (i.fit.0, tt); fits = omega (arith, i.fits, split-length f.model s (r ∷ ss)) };
         }
 
-    pub rest-items : (xs : List ℤ) → ItemAdds (left_of (get_or t k 0)) xs → ItemsFit t known root variables k zs → (1 ≤ k) × ItemsFit t known root variables (k - 1) xs
-    unfolding Starts Every
-    rest-items xs w f = go f.starts f.holds f.items
-      where
-        go : (ss : List Resolved.Start) → Starts t ss k → Items t known root variables f.model ss zs → (1 ≤ k) × ItemsFit t known root variables (k - 1) xs
-        go [] a i = absurd a
-        go (s ∷ []) a i = absurd (start-kind s a h)
-        go (s ∷ r ∷ ss) a i = (
-          pair-above a,
-          record {
-            model = f.model;
-            starts = r ∷ ss;
-            holds = pair-second a;
-            items = record {
-              good = i.good;
-              defines = i.defines;
-              scoped = i.scoped;
-              fit = i.fit.1;
-              room = roomy_after (start_processes f.model (only s)) (start_processes f.model (r ∷ ss)) (w f.model s i.defines i.good i.scoped i.fit.0 a.holds-first) (rw (split f.model s (r ∷ ss)) at i.room);
-            };
-          },
-        )
+    module _ (f g : List ℤ) (at r : ℕ) (w : ItemPuts (left_of (get_or t k 0)) f at g r) where
+      pub rest-items : ItemsFit t known root variables k (length f) at → (1 ≤ k) × ItemsFit t known root variables (k - 1) (length g) r
+      unfolding Starts Every
+      rest-items i = go i.starts i.holds i.items
+        where
+          go : (ss : List Resolved.Start) → Starts t ss k → Items t known root variables i.model ss (length f) at → (1 ≤ k) × ItemsFit t known root variables (k - 1) (length g) r
+          go [] a x = absurd a
+          go (s ∷ []) a x = absurd (start-kind s a h)
+          go (s ∷ u ∷ ss) a x =
+              let v = w i.model s x.defines x.good x.scoped x.fit.0 a.holds-first in (
+                pair-above a,
+                record {
+                  model = i.model;
+                  starts = u ∷ ss;
+                  holds = pair-second a;
+                  items = record { good = x.good; defines = x.defines; scoped = x.scoped; fit = x.fit.1; fits = omega (arith, x.fits, split-length i.model s (u ∷ ss), v.next, rows-size v) };
+                },
+              )
 
-    pub more-items : (xs ys : List ℤ) → ItemAdds (left_of (get_or t k 0)) xs → ItemsAdd (k - 1) xs ys → ItemsAdd k zs ys
-    unfolding Starts Every
-    more-items xs ys w u m [] d q c g a = absurd a
-    more-items xs ys w u m (s ∷ []) d q c g a = absurd (start-kind s a h)
-    more-items xs ys w u m (s ∷ r ∷ ss) d q c g a = rw (split m s (r ∷ ss)) (adds_then (start_processes m (only s)) (start_processes m (r ∷ ss)) (w m s d q c g.0 a.holds-first) (u m (r ∷ ss) d q c g.1 (pair-second a)))
+      pub more-items : (b : List ℤ) (n : ℕ) → ItemsPut (k - 1) g r b n → ItemsPut k f at b n
+      unfolding Starts Every
+      more-items b n u m [] d q c o a = absurd a
+      more-items b n u m (s ∷ []) d q c o a = absurd (start-kind s a h)
+      more-items b n u m (s ∷ x ∷ ss) d q c o a =
+          rw (split m s (x ∷ ss))
+          (rows_then f g b at r n (start_processes m (only s)) (start_processes m (x ∷ ss)) (start-few m q (only s) (o.0, tt)) (w m s d q c o.0 a.holds-first) (u m (x ∷ ss) d q c o.1 (pair-second a)))
 
 -- the item of which it is asked
-pub item-good : {t known : List ℕ} {root variables k : ℕ} {zs : List ℤ} (f : ItemFits t known root variables k zs) → GoodStart f.model f.start
+pub item-good : {t known : List ℕ} {root variables k size at : ℕ} (f : ItemFits t known root variables k size at) → GoodStart f.model f.start
 unfolding Every
 item-good f = f.items.fit.0

@@ -1,49 +1,64 @@
--- The items of the system line lead from the empty state to the opened one. From the laws of pushed processes, and that an opened state is one over its model.
-use mathlib.Core.Path.{◌≡◌, sym, ap, ◌∙◌}
-use mathlib.Core.List.{List, [], ◌++◌, append-nil}
-use Prim.Native.Nat.{ℕ, ◌-◌}
+-- The rows of the start, both counts before them and zeros after, are the numbers of the opened state. From the laws of rows and of parts.
+use mathlib.Core.Path.{◌≡◌, ap, ap₂, subst, ◌∙◌}
+use mathlib.Core.List.{List, ◌∷◌, ◌++◌}
+use Prim.Native.Nat.{ℕ, ◌+◌, ◌-◌, ◌≤◌}
+use native.Mathlib.Omega.{arith}
 use lib.IntN.{ℤ, pos}
-use lib.ListN.{replicate}
+use lib.ListN.{length, take, drop, replicate}
+use lib.Seq.{sets-eq}
+use borrow.Rule.Slice.PartMut.{put_mid}
 use Rattle.model.specs.Resolved
 use Rattle.machine.specs.Offer.{Process}
-use Rattle.machine.specs.State.{State, state_length, state_numbers, empty_state}
+use Rattle.machine.specs.State.{process_room, pair_room, state_length, padded, flatten, process_numbers, state_numbers}
 use Rattle.machine.specs.Machine.{start_processes, opened_state}
-use Rattle.machine.proofs.Stays.{opened-good}
-use Rattle.state.specs.Fits.{scopes_of}
-use Rattle.state.proofs.Over.{good-fits, few-scopes}
-use Rattle.state.proofs.Change.{empty-numbers}
-use Rattle.store.specs.Start.{Towards, ItemsFit, Opens}
-use Rattle.store.proofs.Nodes.{ItemsAdd}
+use Rattle.machine.proofs.Stays.{start-count}
+use Rattle.eval.specs.Next.{Rows}
+use Rattle.eval.proofs.Rows.{rows-length}
+use Rattle.store.specs.Start.{ItemsFit, Opens}
+use Rattle.std.proofs.lemmas.List.{take-replicate, drop-replicate}
+use Rattle.store.proofs.Nodes.{start-few}
 
--- nothing is still to come
-arrived : {scopes : List ℕ} {channels : ℕ} {zs : List ℤ} {s : State} → Towards scopes channels zs [] s → zs ≡ state_numbers s
-arrived {scopes} {channels} {zs} {s} w = w.numbers ∙ ap state_numbers (sym (w.joined ∙ ap (λ (ps : List Process). record { processes = ps; pairs = w.from.pairs }) (append-nil w.from.processes)))
+module _ (t known : List ℕ) (root variables definitions : ℕ) (m : Resolved.Model) (o : Opens t known root variables definitions m) where
+  abbrev ps : List Process
+  ps = start_processes m m.starts
 
-module _ (t known : List ℕ) (root variables definitions : ℕ) (zs : List ℤ) (z : zs ≡ replicate state_length (pos 0)) where
-  -- where it begins
-  begins : (m : Resolved.Model) → Opens t known root variables definitions m → Towards (scopes_of m) m.channels zs (start_processes m m.starts ++ []) (opened_state m)
-  unfolding opened_state empty_state
-  begins m o = record {
-    from = empty_state;
-    numbers = z ∙ sym empty-numbers;
-    joined = ap (λ (ps : List Process). record { processes = ps; pairs = [] }) (sym (append-nil (start_processes m m.starts)));
-    few = few-scopes m o.good;
-    fits = good-fits m (opened_state m) o.good (opened-good m o.good o.few);
-  }
+  few : length ps ≤ 256
+  few = omega (arith, o.few, start-count m m.starts)
 
-  pub opens-fit : (m : Resolved.Model) → Opens t known root variables definitions m → ItemsFit t known root variables (root - variables - definitions) zs
-  opens-fit m o = record {
+  pub opens-fit : ItemsFit t known root variables (root - variables - definitions) process_room 0
+  opens-fit = record {
     model = m;
     starts = m.starts;
     holds = o.starts;
-    items = record {
-      good = o.good;
-      defines = o.defines;
-      scoped = o.scoped;
-      fit = o.good.starts;
-      room = record { scopes = scopes_of m; channels = m.channels; rest = []; state = opened_state m; towards = begins m o };
-    };
+    items = record { good = o.good; defines = o.defines; scoped = o.scoped; fit = o.good.starts; fits = omega (arith, few) };
   }
 
-  pub opens-state : (ys : List ℤ) → ItemsAdd t root variables 0 zs known (root - variables - definitions) zs ys → (m : Resolved.Model) → Opens t known root variables definitions m → ys ≡ state_numbers (opened_state m)
-  opens-state ys w m o = arrived (w m m.starts o.defines o.good o.scoped o.good.starts o.starts (scopes_of m) m.channels [] (opened_state m) (begins m o))
+  -- 01, Open: as many processes as the header says
+  pub opens-count : (f g : List ℤ) (n : ℕ) → Rows f 0 ps g n → n ≡ length ps
+  opens-count f g n r = omega (arith, r.next)
+
+  pub opens-few : (f g : List ℤ) (n : ℕ) → Rows f 0 ps g n → n ≤ 256
+  opens-few f g n r = omega (arith, opens-count f g n r, few)
+
+  -- rows over zeros
+  rows_are : (g : List ℤ) (n : ℕ) → Rows (replicate process_room (pos 0)) 0 ps g n → g ≡ padded process_room (flatten process_numbers ps)
+  unfolding padded
+  rows_are g n r =
+      let f = flatten process_numbers ps in
+      let l : length f ≤ process_room = omega (arith, rows-length ps (start-few m o.good m.starts o.good.starts), few) in
+      let e : 0 + length f ≡ length f = omega arith in
+      r.numbers ∙ sets-eq f (replicate process_room (pos 0)) 0 (omega arith)
+      ∙ ap (λ (i : ℕ). f ++ drop i (replicate process_room (pos 0))) e
+      ∙ ap (λ (xs : List ℤ). f ++ xs) (drop-replicate (length f) process_room (pos 0))
+
+  pub opens-state : (zs g ys : List ℤ) (n : ℕ) → zs ≡ replicate state_length (pos 0) → Rows (take process_room (drop 2 zs)) 0 ps g n
+      → ys ≡ pos n ∷ pos 0 ∷ drop 2 (put_mid 2 process_room zs g) → ys ≡ state_numbers (opened_state m)
+  unfolding state_numbers opened_state padded flatten
+  opens-state zs g ys n z r e =
+      let k : ℕ = process_room + pair_room in
+      let part : take process_room (drop 2 zs) ≡ replicate process_room (pos 0) = ap (λ (xs : List ℤ). take process_room (drop 2 xs)) z ∙ take-replicate process_room k (pos 0) (omega arith) in
+      let rest : drop process_room (drop 2 zs) ≡ replicate pair_room (pos 0) = ap (λ (xs : List ℤ). drop process_room (drop 2 xs)) z ∙ drop-replicate process_room k (pos 0) in
+      let q = rows_are g n (subst (λ (xs : List ℤ). Rows xs 0 ps g n) part r) in
+      e ∙ ap (λ (xs : List ℤ). pos n ∷ pos 0 ∷ drop 2 (take 2 xs ++ (g ++ drop process_room (drop 2 zs)))) z
+      ∙ ap₂ (λ (i : ℕ) (xs : List ℤ). pos i ∷ pos 0 ∷ (xs ++ drop process_room (drop 2 zs))) (opens-count (take process_room (drop 2 zs)) g n r) q
+      ∙ ap (λ (xs : List ℤ). pos (length ps) ∷ pos 0 ∷ (padded process_room (flatten process_numbers ps) ++ xs)) rest

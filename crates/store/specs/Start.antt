@@ -1,50 +1,23 @@
--- How the opened state is written, process by process (01, Open). Definitions only.
-use Rattle.std.specs.Prelude.{◌≡◌, List, [], ◌∷◌, ◌++◌, ℕ, ◌+◌, ◌-◌, ◌≤◌, ◌<◌, ℤ, length}
+-- How the opened state is written, row by row (01, Open). Definitions only.
+use Rattle.std.specs.Prelude.{List, [], ◌∷◌, ℕ, ◌+◌, ◌-◌, ◌*◌, ◌≤◌, ◌<◌, ℤ, length}
 use Rattle.value.specs.Range.{InRange}
+use Rattle.model.specs.Limits.{local_limit}
 use Rattle.model.specs.Resolved
 use Rattle.model.specs.Good.{Every, GoodStart, GoodModel}
 use Rattle.model.specs.Opening as opening
 use Rattle.model.specs.Opening.{process_limit}
 use Rattle.tables.specs.Represents.{Sums, Wholes, Start, Starts}
-use Rattle.machine.specs.Offer.{Process}
-use Rattle.machine.specs.State.{State, state_numbers}
+use Rattle.machine.specs.State.{process_width}
 use Rattle.machine.specs.Machine.{copies, start_processes}
-use Rattle.state.specs.Fits.{FewLocals, Fits}
 use Rattle.eval.specs.Next.{entered, Defines, Scoped}
 
--- 01, Open: the numbers zs are those of a state that the processes ps, after its own, make the state s over some model
-pub record Towards (scopes : List ℕ) (channels : ℕ) (zs : List ℤ) (ps : List Process) (s : State) : Type 0 where
-  pub from : State
-  pub numbers : zs ≡ state_numbers from
-  pub joined : s ≡ record { processes = from.processes ++ ps; pairs = from.pairs }
-  pub few : FewLocals scopes
-  pub fits : Fits scopes channels s
-
--- 01, Open: after the processes ps the numbers zs have become ys, whatever processes are still to come
-abbrev pub Adds : List Process → List ℤ → List ℤ → Type 0
-Adds ps zs ys = (scopes : List ℕ) (channels : ℕ) (rest : List Process) (s : State) → Towards scopes channels zs (ps ++ rest) s → Towards scopes channels ys rest s
-
--- there is room for the processes ps
-pub record Roomy (ps : List Process) (zs : List ℤ) : Type 0 where
-  pub scopes : List ℕ
-  pub channels : ℕ
-  pub rest : List Process
-  pub state : State
-  pub towards : Towards scopes channels zs (ps ++ rest) state
-
--- sums stand at k, and there is room for a process of each
-pub record SumsFit (t known : List ℕ) (k : ℕ) (ls zs : List ℤ) : Type 0 where
+-- 01, Open: sums stand at k, and as many rows as so many copies of them are lie from row at on
+pub record CopiesFit (t known : List ℕ) (k : ℕ) (ls : List ℤ) (count size at : ℕ) : Type 0 where
   pub sums : List ℕ
   pub holds : Sums t sums k
   pub below : Every (λ (n : ℕ). n < length known) sums
-  pub room : Roomy (entered known sums ls) zs
-
--- 01, Open: the same with a count
-pub record CopiesFit (t known : List ℕ) (k : ℕ) (ls zs : List ℤ) (count : ℕ) : Type 0 where
-  pub sums : List ℕ
-  pub holds : Sums t sums k
-  pub below : Every (λ (n : ℕ). n < length known) sums
-  pub room : Roomy (copies count (entered known sums ls)) zs
+  pub few : length ls ≤ local_limit
+  pub fits : (at + length (copies count (entered known sums ls))) * process_width ≤ size
 
 -- whole numbers stand at k, and as many places lie from place at on
 pub record WholesFit (t : List ℕ) (k size at : ℕ) : Type 0 where
@@ -53,31 +26,31 @@ pub record WholesFit (t : List ℕ) (k size at : ℕ) : Type 0 where
   pub good : Every InRange values
   pub fits : at + length values ≤ size
 
--- the items ss of a good model's system line, of which the nodes have the definitions, and there is room for their processes
-pub record Items (t known : List ℕ) (root variables : ℕ) (m : Resolved.Model) (ss : List Resolved.Start) (zs : List ℤ) : Type 0 where
+-- the items ss of a good model's system line, of which the nodes have the definitions, and as many rows as their processes are lie from row at on
+pub record Items (t known : List ℕ) (root variables : ℕ) (m : Resolved.Model) (ss : List Resolved.Start) (size at : ℕ) : Type 0 where
   pub good : GoodModel m
   pub defines : Defines t root variables m
   pub scoped : Scoped known m
   pub fit : Every (GoodStart m) ss
-  pub room : Roomy (start_processes m ss) zs
+  pub fits : (at + length (start_processes m ss)) * process_width ≤ size
 
 -- one item
 abbrev pub only : Resolved.Start → List Resolved.Start
 only s = s ∷ []
 
 -- an item stands at k
-pub record ItemFits (t known : List ℕ) (root variables k : ℕ) (zs : List ℤ) : Type 0 where
+pub record ItemFits (t known : List ℕ) (root variables k size at : ℕ) : Type 0 where
   pub model : Resolved.Model
   pub start : Resolved.Start
   pub holds : Start t start k
-  pub items : Items t known root variables model (only start) zs
+  pub items : Items t known root variables model (only start) size at
 
 -- items stand at k
-pub record ItemsFit (t known : List ℕ) (root variables k : ℕ) (zs : List ℤ) : Type 0 where
+pub record ItemsFit (t known : List ℕ) (root variables k size at : ℕ) : Type 0 where
   pub model : Resolved.Model
   pub starts : List Resolved.Start
   pub holds : Starts t starts k
-  pub items : Items t known root variables model starts zs
+  pub items : Items t known root variables model starts size at
 
 -- 01, Open: a good model with few enough processes at the start, of which the nodes have definitions and system line
 pub record Opens (t known : List ℕ) (root variables definitions : ℕ) (m : Resolved.Model) : Type 0 where

@@ -2,12 +2,17 @@
 ghost use Rattle.std.specs.Prelude.{◌≡◌, ◌∷◌, ◌≤◌, ◌<◌, ◌%◌, ◌/◌, pos, length, drop, replicate, MatchOption};
 ghost use Rattle.std.proofs.Math.Option.{none};
 ghost use Rattle.token.specs.Questions.{text_limit};
-ghost use Rattle.machine.specs.State.{state_length};
-ghost use Rattle.machine.specs.Machine.{model_length};
+ghost use Rattle.model.specs.Opening.{process_limit};
+ghost use Rattle.model.specs.Resolved as Resolved;
+ghost use Rattle.machine.specs.State.{pair_limit, state_length, state_numbers};
+ghost use Rattle.machine.specs.Machine.{model_length, opened_state};
 ghost use Rattle.buffers.specs.Held.{model_bytes, length_in, zeros, held_in};
+ghost use Rattle.store.specs.Start as Start;
 ghost use Rattle.store.specs.Text.{TextOf};
 
-use crate::Engine;
+use crate::{Engine, start};
+use state::Layout;
+use tables::Tables;
 
 #[derive(Clone, Copy)]
 pub struct Bytes;
@@ -19,12 +24,14 @@ impl Bytes {
     pub const FIRST: usize = 2;
 }
 
-// Writes a text's length.
-fn put_length(model: &mut [u8], n: usize)
-    requires { (2 ≤ length model.old) × (n < 65536) }
-    ensures { model.new ≡ n % 256 ∷ n / 256 ∷ drop 2 model.old }
+// Writes an engine's header, a fresh one's as an opened one's: the length of its text, low byte first, and both counts. A step changes a count by state's `put_count`.
+fn put_header(engine: Engine, model: &mut [u8], state: &mut [i64])
+    requires { (engine.text ≤ text_limit) × (engine.processes ≤ process_limit) × (engine.pairs ≤ pair_limit) × (2 ≤ length model.old) × (2 ≤ length state.old) }
+    ensures { (model.new ≡ engine.text % 256 ∷ engine.text / 256 ∷ drop 2 model.old) × (state.new ≡ pos engine.processes ∷ pos engine.pairs ∷ drop 2 state.old) }
 {
-    model[..Bytes::FIRST].copy_from_slice(&(n as u16).to_le_bytes());
+    model[..Bytes::FIRST].copy_from_slice(&(engine.text as u16).to_le_bytes());
+    state::put_count(state, 0, engine.processes);
+    state::put_count(state, 1, engine.pairs);
 }
 
 // A fresh engine: its header, and zeros.
@@ -32,20 +39,34 @@ pub fn put_fresh(model: &mut [u8], state: &mut [i64])
     requires { (length model.old ≡ model_length) × (length state.old ≡ state_length) }
     ensures { (model.new ≡ replicate model_length 0) × (state.new ≡ replicate state_length (pos 0)) }
 {
-    let engine = Engine::fresh();
     model.fill(0);
     state.fill(0);
-    put_length(model, engine.text);
-    state::put_count(state, 0, engine.processes);
-    state::put_count(state, 1, engine.pairs);
+    put_header(Engine::fresh(), model, state);
 }
 
-// A text in a cleared buffer.
-pub fn put_text(model: &mut [u8], text: &[u8])
-    requires { (model.old ≡ replicate model_length 0) × (length text.now ≤ text_limit) }
-    ensures { model.new ≡ model_bytes text.now }
+// An opened engine in cleared buffers: the processes that its model starts with, its header, and its text.
+pub fn put_opened(
+    tables: Tables,
+    definitions: usize,
+    text: &[u8],
+    model: &mut [u8],
+    state: &mut [i64],
+)
+    requires { (model.old ≡ replicate model_length 0) × (state.old ≡ replicate state_length (pos 0)) × (length text.now ≤ text_limit) × ((m : Resolved.Model) × Start.Opens tables.nodes.now tables.scopes.now tables.root tables.variables definitions m) }
+    ensures bytes { model.new ≡ model_bytes text.now }
+    ensures numbers { (m : Resolved.Model) → Start.Opens tables.entry.nodes.now tables.entry.scopes.now tables.entry.root tables.entry.variables definitions m → state.new ≡ state_numbers (opened_state m) }
 {
-    put_length(model, text.len());
+    let processes = start::put_start(
+        tables,
+        definitions,
+        &mut state[Layout::PROCESSES..Layout::PAIRS],
+    );
+    let engine = Engine {
+        text: text.len(),
+        processes,
+        pairs: 0,
+    };
+    put_header(engine, model, state);
     model[Bytes::FIRST..Bytes::FIRST + text.len()].copy_from_slice(text);
 }
 

@@ -3,18 +3,12 @@ use native.Mathlib.Omega.{arith}
 use Rattle.engine.proofs.Openings.{opened-is, refused-is, short, starts, refused-gives, accepted-gives}
 use Rattle.engine.proofs.texts.open_lent.Goals as goal
 
-pub put_text-requires : goal.put_text-requires
-put_text-requires c =
+pub put_opened-requires : goal.put_opened-requires
+put_opened-requires c =
     let X = c.args.text.now in
     let o = opened-is X _ _ _ c.args.profile c.open_under-opened.ensures c.in-Ok.is in
-    (c.put_fresh.ensures.0, short X _ _ _ o.plain)
-
-pub open_state-requires : goal.open_state-requires
-open_state-requires c =
-    let X = c.args.text.now in
-    let o = opened-is X _ _ _ c.args.profile c.open_under-opened.ensures c.in-Ok.is in
-    let t = c.tables.ensures in
-    (c.put_fresh.ensures.1, (o.plain.model, rw (t.0, t.2, t.3, t.4) (starts X _ _ _ o.plain)))
+    let t = c.tables-tables.ensures in
+    (c.put_fresh.ensures.0, c.put_fresh.ensures.1, short X _ _ _ o.plain, (o.plain.model, rw (t.0, t.2, t.3, t.4) (starts X _ _ _ o.plain)))
 
 pub returns-in-Err : goal.returns-in-Err
 returns-in-Err c =
@@ -35,5 +29,5 @@ returns-in-Ok c =
     λ ss z.
     let X = c.args.text.now in
     let o = opened-is X _ _ _ c.args.profile c.open_under-opened.ensures c.in-Ok.is in
-    let t = c.tables.ensures in
-    rw c.bare.ensures (accepted-gives X o.plain.model _ _ ss o.opens c.put_text.ensures (c.open_state.ensures o.plain.model (rw (t.0, t.2, t.3, t.4) (starts X _ _ _ o.plain))) z)
+    let t = c.tables-tables.ensures in
+    rw c.bare.ensures (accepted-gives X o.plain.model _ _ ss o.opens c.put_opened.ensures.bytes (c.put_opened.ensures.numbers o.plain.model (rw (t.0, t.2, t.3, t.4) (starts X _ _ _ o.plain))) z)

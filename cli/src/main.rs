@@ -72,16 +72,19 @@ fn ended(words: &[String]) -> u8 {
 }
 
 fn run(words: &[String], out: &mut dyn Write) -> Result<(), Failure> {
-    let first = words.first().map(String::as_str);
-    if first == Some("--help") || first == Some("help") {
-        return Ok(out.write_all(help().as_bytes())?);
-    }
-    if words.iter().any(|word| word == "--version") {
+    let is_there = |long: &str, short: &str| words.iter().any(|word| word == long || word == short);
+    if is_there("--version", "-V") {
         return Ok(writeln!(out, "matgravel {}", env!("CARGO_PKG_VERSION"))?);
     }
-    let command = COMMANDS.iter().find(|command| Some(command.name) == first);
-    let command = command.ok_or_else(|| Failure::Usage(unknown(first)))?;
-    if words[1..].iter().any(|word| word == "--help") {
+    let is_first = words.first().is_some_and(|word| ["help", "--help", "-h"].contains(&word.as_str()));
+    let name = words.get(usize::from(is_first)).map(String::as_str);
+    let asks_help = is_first || is_there("--help", "-h");
+    if asks_help && name.is_none() {
+        return Ok(out.write_all(help().as_bytes())?);
+    }
+    let command = COMMANDS.iter().find(|command| Some(command.name) == name);
+    let command = command.ok_or_else(|| Failure::Usage(unknown(name)))?;
+    if asks_help {
         return Ok(out.write_all(command.help().as_bytes())?);
     }
     (command.run)(&args::read(command, &words[1..])?, out)

@@ -24,7 +24,12 @@ fn help_and_version_are_everywhere_and_in_the_man_page() {
             assert!(page.contains(&format!("--{option}")), "{command} --{option}");
         }
         assert_eq!(run(&[command, "--version"]).status, 0);
+        for words in [["help", command], ["--help", command], [command, "-h"]] {
+            assert_eq!(run(&words).out, own.out, "{words:?}");
+        }
     }
+    assert_eq!((run(&["-h"]).out, run(&["help"]).out), (help.out.clone(), help.out));
+    assert_eq!(run(&["help", "guess"]).status, 2);
 }
 
 #[test]
@@ -75,6 +80,10 @@ fn a_refusal_has_its_line_a_caret_and_how_to_mend_it() {
                  \x20              ^\n";
     assert_eq!((ran.status, ran.out.as_str()), (1, ""));
     assert!(ran.err.starts_with(start) && ran.err.contains("a missing `;`"), "{}", ran.err);
+    let lines = on_text(&["check", "-"], "A[]={go,1};\r\nA[]\r\n");
+    assert!(lines.err.starts_with("standard input:3:1: refused 5"), "{}", lines.err);
+    let lines = on_text(&["check", "-"], "A[]={go,1}\r\nA[];\r\n");
+    assert!(lines.err.contains(":2:1: ") && lines.err.contains("\n    A[];\n    ^\n"), "{}", lines.err);
     let steady = on_text(&["check", "-", "--steady"], "A[]={a,1}.(A[]||A[]);A[];");
     assert!(steady.status == 1 && steady.err.starts_with("standard input:1:11: refused 29: "), "{}", steady.err);
 }

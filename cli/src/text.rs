@@ -38,6 +38,7 @@ impl Text {
     pub fn caret(&self, place: usize) -> String {
         let (line, column) = self.position(place);
         let line = self.bytes.split(|&byte| byte == b'\n').nth(line - 1).unwrap_or(&[]);
+        let line = line.strip_suffix(b"\r").filter(|line| line.len() >= column - 1).unwrap_or(line);
         let from = (column - 1).saturating_sub(SHOWN / 2);
         let part = &line[from..line.len().min(from + SHOWN)];
         let shown: String = part.iter().map(|&byte| printable(byte)).collect();

@@ -34,6 +34,9 @@ FIRST_VALUE = CHANNEL + 1
 ANSWER = 6
 CLOCK = 2
 
+# More characters than any line of `calls` has: a state's numbers with their signs and blanks.
+LONGEST = 22 * STATE
+
 # Ticks of a unit of the model's time.
 UNIT = 10000
 
@@ -82,6 +85,17 @@ def whole_numbers(line):
     except ValueError:
         return []
     return numbers if all(-(2**63) <= number < 2**64 for number in numbers) else []
+
+
+def lines_of(file):
+    """Its lines, none longer than a line of `calls`."""
+    for place in itertools.count(1):
+        line = file.readline(LONGEST + 1)
+        if not line:
+            return
+        if len(line) > LONGEST:
+            sys.exit(f"line {place} is longer than any line of `calls`")
+        yield line
 
 
 def is_state(numbers):
@@ -231,7 +245,7 @@ def main():
     if sys.stdin is None:
         sys.exit("standard input is closed")
     sys.stdin.reconfigure(errors="replace")
-    runs = list(states(sys.stdin))
+    runs = list(states(lines_of(sys.stdin)))
     if not runs:
         sys.exit("no state was printed: the script needs `state` lines")
     try:

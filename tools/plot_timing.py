@@ -10,7 +10,7 @@ of time, over the positions that one fork lights in a unit (--speed); without --
 
 --measured lays a measured curve over the mean: a table of position and time, with or without a head. The squared
 distance between both is printed: over the measured positions within the table, the mean drawn straight from one
-position to the next.
+position to the next. A table named - is standard input.
 
 The picture needs matplotlib (Debian package python3-matplotlib); the distance needs python3 alone.
 """
@@ -21,8 +21,35 @@ import itertools
 import math
 import sys
 
+# More characters than a line of a table has.
+LONGEST = 1 << 20
+
 STATISTICS = ["value", "runs", "lit", "mean", "sd", "q1", "median", "q3"]
 GRID = "by_"
+
+
+def lines_of(file):
+    """Its lines, none longer than a table's."""
+    while line := file.readline(LONGEST):
+        if len(line) == LONGEST:
+            raise ValueError("a line is longer than any of a table")
+        yield line
+
+
+def rows_of(name):
+    """The rows of a table; of standard input for -."""
+    if name == "-" and sys.stdin is None:
+        raise ValueError("it is closed")
+    with sys.stdin if name == "-" else open(name, newline="") as file:
+        yield from csv.reader(lines_of(file))
+
+
+def number(word):
+    """A number that is neither infinite nor none."""
+    value = float(word)
+    if not math.isfinite(value):
+        raise ValueError(f"{word} is no number")
+    return value
 
 
 class Timing:
@@ -32,14 +59,16 @@ class Timing:
         head = next(rows, [])
         if head[: len(STATISTICS)] != STATISTICS or not all(name.startswith(GRID) for name in head[len(STATISTICS) :]):
             raise ValueError("this is no table of `matgravel timing`")
-        self.times = [float(name[len(GRID) :]) for name in head[len(STATISTICS) :]]
+        self.times = [number(name[len(GRID) :]) for name in head[len(STATISTICS) :]]
         table = sorted((int(row[0].split()[0]), row) for row in rows)
         if not table:
             raise ValueError("the table has no rows: nothing was lit")
+        if any(len(row) != len(head) for _, row in table):
+            raise ValueError("a row has more or fewer fields than the head")
         self.positions = [position for position, _ in table]
-        self.means = [float(row[3]) for _, row in table]
-        self.deviations = [float(row[4] or 0) for _, row in table]
-        self.shares = [[float(share) for share in row[len(STATISTICS) :]] for _, row in table]
+        self.means = [number(row[3]) for _, row in table]
+        self.deviations = [number(row[4] or 0) for _, row in table]
+        self.shares = [[number(share) for share in row[len(STATISTICS) :]] for _, row in table]
 
     def mean_at(self, position):
         """The mean at a position between those of the table; None outside of them."""
@@ -60,14 +89,12 @@ class Timing:
 def measured_points(rows):
     """Positions and times; the first row may be a head."""
     points = []
-    for number, row in enumerate(rows):
+    for place, row in enumerate(rows, 1):
         try:
-            points.append((float(row[0]), float(row[1])))
+            points.append((number(row[0]), number(row[1])))
         except (ValueError, IndexError):
-            if number > 0:
-                raise ValueError(f"row {number + 1} isn't a position and a time") from None
-    if not all(math.isfinite(number) for point in points for number in point):
-        raise ValueError("a position or a time is no number")
+            if place > 1:
+                raise ValueError(f"row {place} isn't a position and a time") from None
     return points
 
 
@@ -99,48 +126,56 @@ def draw(timing, points, options):
         rows = list(zip(*timing.shares))
         mesh = middle.pcolormesh(timing.positions, timing.times, rows, vmin=0, vmax=1, shading="nearest")
         figure.colorbar(mesh, ax=middle, label="share of runs")
-        below.step(*zip(*[(time, rate / options.speed) for time, rate in timing.lit_in_a_unit()]), where="mid")
+        rates = [(time, rate / (options.speed or 1)) for time, rate in timing.lit_in_a_unit()]
+        below.step(*zip(*rates), where="mid")
     middle.set(xlabel="position", ylabel="time")
-    below.set(xlabel="time", ylabel="forks" if options.speed != 1 else "positions in a unit of time")
+    below.set(xlabel="time", ylabel="forks" if options.speed else "positions in a unit of time")
     figure.savefig(options.picture, dpi=150)
 
 
 def speed(word):
-    number = float(word)
-    if not (math.isfinite(number) and number > 0):
+    value = number(word)
+    if value <= 0:
         raise ValueError
-    return number
+    return value
 
 
-def main():
+def options_given():
     parser = argparse.ArgumentParser(description="Draws the table of `matgravel timing`.")
     parser.add_argument("timing", help="the table")
     parser.add_argument("picture", nargs="?", help="the picture to write, as .png, .svg or .pdf")
     parser.add_argument("--measured", help="a measured curve: a table of position and time")
-    parser.add_argument("--speed", type=speed, default=1, help="positions that one fork lights in a unit of time")
+    parser.add_argument("--speed", type=speed, help="positions that one fork lights in a unit of time")
     parser.add_argument("--title", default="Timing", help="the picture's title")
     options = parser.parse_args()
     if not options.picture and not options.measured:
         parser.error("name a picture to write, or a measured curve")
+    return options
+
+
+def print_distance(timing, points):
+    total, count = squared_distance(timing, points)
+    root = math.sqrt(total / count) if count else 0.0
+    print(f"squared distance {total:.6g} over {count} positions, root of the mean square {root:.6g}", flush=True)
+
+
+def main():
+    options = options_given()
     name = options.timing
     try:
-        with open(name, newline="") as file:
-            timing = Timing(csv.reader(file))
+        timing = Timing(rows_of(name))
         points = []
         if options.measured:
             name = options.measured
-            with open(name, newline="") as file:
-                points = measured_points(csv.reader(file))
-            total, count = squared_distance(timing, points)
-            root = math.sqrt(total / count) if count else 0.0
-            print(f"squared distance {total:.6g} over {count} positions, root of the mean square {root:.6g}")
+            points = measured_points(rows_of(name))
+            print_distance(timing, points)
         if options.picture:
             name = options.picture
             draw(timing, points, options)
     except ImportError:
         sys.exit("matplotlib isn't there: install python3-matplotlib")
-    except (OSError, ValueError, IndexError, csv.Error) as error:
-        sys.exit(f"{name}: {error}")
+    except (OSError, ValueError, IndexError, ArithmeticError, csv.Error) as error:
+        sys.exit(f"{'standard input' if name == '-' else name}: {error}")
 
 
 if __name__ == "__main__":

@@ -34,18 +34,40 @@ fn draw_run_survives_any_input() {
     }
 }
 
+/// Of a line without an end no more is read than a line may have.
+#[test]
+fn tools_end_on_a_line_without_an_end() {
+    let timing = written(&folder("endless"), "timing.csv", TIMING);
+    let lines: [&[&str]; 3] =
+        [&["draw_run.py"], &["plot_timing.py", "-", "x.png"], &["plot_timing.py", &timing, "--measured", "-"]];
+    for words in lines {
+        let zeros = std::fs::File::open("/dev/zero").expect("zeros");
+        let output = python(words[0]).args(&words[1..]).stdin(zeros).output().expect("python3 starts");
+        said_in_a_line(&Ran::from(output));
+    }
+}
+
+const TIMING: &str = "value,runs,lit,mean,sd,q1,median,q3,by_2,by_4\n\
+                      0,9,9,1,0.5,1,1,1,1,1\n10,9,9,3,0.5,3,3,3,0,1\n";
+
 #[test]
 fn the_distance_to_a_measured_curve() {
     let folder = folder("plot");
-    let head = "value,runs,lit,mean,sd,q1,median,q3,by_2,by_4\n";
-    let rows = "0,9,9,1,0.5,1,1,1,1,1\n10,9,9,3,0.5,3,3,3,0,1\n";
-    let timing = written(&folder, "timing.csv", &format!("{head}{rows}"));
-    let measured = written(&folder, "measured.csv", "position,time\n0,2\n5,2\n10,1\n11,0\n");
-    let ran = fed(python("plot_timing.py").args([&timing, "--measured", &measured]), b"");
-    assert_eq!(ran.out, "squared distance 5 over 3 positions, root of the mean square 1.29099\n", "{}", ran.err);
+    let head = TIMING.lines().next().expect("a head");
+    let timing = written(&folder, "timing.csv", TIMING);
+    let curve = "position,time\n0,2\n5,2\n10,1\n11,0\n";
+    let measured = written(&folder, "measured.csv", curve);
+    let said = "squared distance 5 over 3 positions, root of the mean square 1.29099\n";
+    for (table, curve, input) in [(&*timing, &*measured, ""), (&timing, "-", curve), ("-", &measured, TIMING)] {
+        let ran = fed(python("plot_timing.py").args([table, "--measured", curve]), input.as_bytes());
+        assert_eq!(ran.out, said, "{}", ran.err);
+    }
     let empty = written(&folder, "empty.csv", head);
+    let short = written(&folder, "short.csv", &format!("{head}\n0,9,9,1\n"));
     let wrong = written(&folder, "wrong.csv", "position,time\n1,soon\n");
-    for (table, curve) in [(&measured, &measured), (&empty, &measured), (&timing, &wrong)] {
+    let far = written(&folder, "far.csv", "position,time\n1,1e300\n");
+    let pairs = [(&measured, &measured), (&empty, &measured), (&short, &measured), (&timing, &wrong), (&timing, &far)];
+    for (table, curve) in pairs {
         said_in_a_line(&fed(python("plot_timing.py").args([table, "--measured", curve]), b""));
     }
 }

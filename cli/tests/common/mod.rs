@@ -12,7 +12,7 @@ pub struct Ran {
 }
 
 impl Ran {
-    fn from(output: Output) -> Ran {
+    pub fn from(output: Output) -> Ran {
         Ran {
             status: output.status.code().expect("it ended by itself"),
             out: String::from_utf8(output.stdout).expect("text"),

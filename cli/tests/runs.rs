@@ -2,7 +2,7 @@
 
 mod common;
 
-use common::{folder, is_there, matgravel, model, on_text, repository, run, written};
+use common::{fed, folder, is_there, matgravel, model, on_text, repository, run, written};
 use std::process::Command;
 
 const RUNS: usize = 12;
@@ -54,6 +54,21 @@ fn the_example_for_parallel() {
     assert!(std::fs::read_to_string(out).expect("a table") == whole.out);
 }
 
+#[test]
+fn the_examples_say_what_they_take() {
+    let calls: [(&str, &[&str]); 4] = [
+        ("parallel.sh", &[]),
+        ("parallel.sh", &["model.bc", "chr", "12", "0", "out.csv"]),
+        ("slurm.sh", &["model.bc", "chr"]),
+        ("slurm.sh", &["model.bc", "chr", "some", "folder"]),
+    ];
+    for (script, words) in calls {
+        let ran = fed(Command::new("bash").arg(repository().join("examples").join(script)).args(words), b"");
+        assert_eq!((ran.status, ran.out.as_str()), (2, ""), "{script} {words:?}");
+        assert!(ran.err.starts_with("usage: ") && ran.err.lines().count() == 1, "{}", ran.err);
+    }
+}
+
 /// The array of the example for Slurm, its tasks one after the other.
 #[test]
 fn the_example_for_slurm() {
@@ -69,6 +84,30 @@ fn the_example_for_slurm() {
     let added = run(&["add", &parts[0], &parts[1], &parts[2]]);
     let whole = run(&["timing", &model("chromosome.bc"), "--channel", "chr", "--runs", "12"]);
     assert!(added.status == 0 && added.out == whole.out, "{}", added.err);
+}
+
+/// models/chromosome.bc with one origin that is always licensed: bin n is copied after an exponential time of the origin's
+/// mean and one of mean 1/0.35 for each bin between both.
+#[test]
+fn a_chromosome_of_one_origin_has_the_known_curve() {
+    let whole = std::fs::read_to_string(model("chromosome.bc")).expect("the model");
+    let (definitions, _) = whole.split_once("\nOri[0,").expect("a system line");
+    let text = format!("{definitions}\nOri[100,25,1000];\n");
+    let words = ["timing", "-", "--channel", "chr", "--runs", "150", "--seed", "8", "--threads", "4"];
+    let ran = on_text(&words, &text);
+    assert_eq!(ran.status, 0, "{}", ran.err);
+    let mut bins = 0;
+    for row in ran.out.lines().skip(1) {
+        let fields: Vec<f64> = row.split(',').map(|field| field.parse().expect("a number")).collect();
+        let [bin, runs, lit, mean, deviation] = fields[..5] else { panic!("{row}") };
+        let (fires, moves) = (1.0 / 0.025, (bin - 100.0).abs());
+        let (expected, variance): (f64, f64) = (fires + moves / 0.35, fires * fires + moves / (0.35 * 0.35));
+        assert_eq!((runs, lit), (150.0, 150.0), "{row}");
+        assert!((mean - expected).abs() < 4.0 * (variance / runs).sqrt(), "{row}");
+        assert!((deviation / variance.sqrt() - 1.0).abs() < 0.3, "{row}");
+        bins += 1;
+    }
+    assert_eq!(bins, 204);
 }
 
 /// One origin that fires at rate 0.5 and a fork of 4 positions a unit: position n is lit after an exponential time of

@@ -42,6 +42,21 @@ fn a_file_without_an_end() {
     assert_eq!(run(&["add", "/dev/zero"]).status, 2);
 }
 
+/// Two gigabytes of nothing, which take no room on the disk.
+#[test]
+fn a_file_of_two_gigabytes() {
+    let file = folder("large").join("large.bc");
+    std::fs::File::create(&file).and_then(|made| made.set_len(2 << 30)).expect("a file");
+    let name = file.display().to_string();
+    for words in READERS {
+        let ran = run(&[words, &[&name]].concat());
+        assert_eq!((ran.status, ran.out.as_str()), (1, ""), "{words:?}");
+    }
+    let ran = run(&["add", &name]);
+    assert_eq!((ran.status, ran.out.as_str()), (2, ""), "{}", ran.err);
+    std::fs::remove_file(file).expect("it was there");
+}
+
 #[test]
 fn standard_input_that_is_closed() {
     let closed = |words: &str| {
@@ -63,6 +78,20 @@ fn a_full_disk() {
         assert_eq!(ran.status.code(), Some(2), "{words:?}: {error}");
         assert!(error.contains("standard output: "), "{error}");
     }
+}
+
+/// Progress is shown where standard error is a terminal, which Python's pty makes, and nothing of it stays.
+#[test]
+fn a_terminal_sees_progress() {
+    let watch = "import pty, sys; sys.exit(pty.spawn(sys.argv[1:]) >> 8)";
+    let show = format!("'{}' timing '{}' --channel chr --runs 9 > /dev/null", common::command(), model("chromosome.bc"));
+    let ran = fed(Command::new("python3").args(["-c", watch, "sh", "-c", &show]), b"");
+    assert_eq!(ran.status, 0, "{}", ran.out);
+    let shown: Vec<&str> = ran.out.split('\r').collect();
+    assert!(shown.iter().any(|line| line.starts_with("4 of 9 runs, ") && line.contains(" s left")), "{shown:?}");
+    assert!(shown.last().expect("a part").starts_with("\u{1b}[K"), "{shown:?}");
+    let quiet = run(&["timing", &model("chromosome.bc"), "--channel", "chr", "--runs", "9"]);
+    assert_eq!(quiet.err, "");
 }
 
 /// `simulate | head`: the command ends quietly.

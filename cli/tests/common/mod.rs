@@ -29,8 +29,13 @@ pub fn model(name: &str) -> String {
     repository().join("models").join(name).display().to_string()
 }
 
+/// The command's file.
+pub fn command() -> &'static str {
+    env!("CARGO_BIN_EXE_matgravel")
+}
+
 pub fn matgravel() -> Command {
-    Command::new(env!("CARGO_BIN_EXE_matgravel"))
+    Command::new(command())
 }
 
 pub fn run(words: &[&str]) -> Ran {

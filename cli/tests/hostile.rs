@@ -84,7 +84,8 @@ fn a_full_disk() {
 #[test]
 fn a_terminal_sees_progress() {
     let watch = "import pty, sys; sys.exit(pty.spawn(sys.argv[1:]) >> 8)";
-    let show = format!("'{}' timing '{}' --channel chr --runs 9 > /dev/null", common::command(), model("chromosome.bc"));
+    let show =
+        format!("'{}' timing '{}' --channel chr --runs 9 > /dev/null", common::command(), model("chromosome.bc"));
     let ran = fed(Command::new("python3").args(["-c", watch, "sh", "-c", &show]), b"");
     assert_eq!(ran.status, 0, "{}", ran.out);
     let shown: Vec<&str> = ran.out.split('\r').collect();

@@ -116,10 +116,24 @@ fn the_files_are_installed() {
     let settings = std::fs::read_to_string(format!("{prefix}/lib/pkgconfig/matgravel.pc")).expect("settings");
     assert!(settings.contains(&format!("prefix={prefix}\n")) && settings.contains(env!("CARGO_PKG_VERSION")));
     let mut gcc = Command::new("gcc");
-    gcc.arg(repository().join("examples/run.c")).arg(format!("-I{prefix}/include")).arg(format!("-L{prefix}/lib"));
+    gcc.arg(repository().join("examples/run.c")).args(flags(&prefix));
     // The archive needs nothing but C's library; one that stands in for it may need more.
-    compiled(gcc.args(["-lmatgravel", "-lm", "-lpthread", "-ldl", "-o"]).arg(format!("{prefix}/run")));
+    compiled(gcc.args(["-lm", "-lpthread", "-ldl", "-o"]).arg(format!("{prefix}/run")));
     example_says_what_is_wrong(&format!("{prefix}/run"));
+}
+
+/// What a compiler is told, by pkg-config where it is there.
+fn flags(prefix: &str) -> Vec<String> {
+    let told = format!("-I{prefix}/include -L{prefix}/lib -lmatgravel");
+    let mut flags = told.clone();
+    if is_there("pkg-config") {
+        let mut asked = Command::new("pkg-config");
+        asked.args(["--cflags", "--libs", "matgravel"]).env("PKG_CONFIG_PATH", format!("{prefix}/lib/pkgconfig"));
+        let ran = fed(&mut asked, b"");
+        flags = ran.out.trim().to_string();
+        assert_eq!((flags.as_str(), ran.status), (told.as_str(), 0), "{}", ran.err);
+    }
+    flags.split_whitespace().map(str::to_string).collect()
 }
 
 fn example_says_what_is_wrong(program: &str) {

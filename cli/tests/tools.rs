@@ -34,6 +34,29 @@ fn draw_run_survives_any_input() {
     }
 }
 
+/// A script of this repository where no tool but `dirname` is on the path.
+fn without_tools(script: &str, words: &[&str]) -> Ran {
+    let tools = folder("no_tools");
+    let _ = std::os::unix::fs::symlink("/usr/bin/dirname", tools.join("dirname"));
+    fed(Command::new("/bin/bash").arg(repository().join(script)).args(words).env("PATH", tools), b"")
+}
+
+/// What is missing is said before anything is proved.
+#[test]
+fn missing_tools_are_named_first() {
+    let cases = [
+        (without_tools(".ci/run", &[]), "gate: not found: rt cargo gcc g++ make python3 "),
+        (without_tools("tools/build.sh", &["engine"]), "tools/build.sh: rt, "),
+        (without_tools("tools/build.sh", &["guess"]), "tools/build.sh: guess is no program"),
+        (without_tools("tools/build.sh", &[]), "usage: tools/build.sh "),
+        (without_tools("examples/parallel.sh", &["m", "c", "1", "1", "o"]), "examples/parallel.sh: parallel is not "),
+    ];
+    for (ran, said) in cases {
+        assert_eq!((ran.status, ran.out.as_str()), (2, ""), "{said}");
+        assert!(ran.err.starts_with(said) && ran.err.lines().count() == 1, "{}", ran.err);
+    }
+}
+
 /// Of a line without an end no more is read than a line may have.
 #[test]
 fn tools_end_on_a_line_without_an_end() {

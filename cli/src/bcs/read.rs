@@ -5,7 +5,7 @@ use super::tree::*;
 use crate::tokens::{is_name, Cursor};
 use std::collections::BTreeMap;
 
-/// Brackets and prefixes one in another, and operands in a row, that are followed at most.
+/// Brackets and prefixes one in another, and signs in the expressions of one gate, prefix or call, that are followed at most.
 const DEEPEST: usize = 1_000;
 
 /// What was looked for, and the place where it isn't.
@@ -18,7 +18,7 @@ type Read<T> = Result<T, Unread>;
 
 /// Names that have another one in `renamed` are read as that.
 pub fn read(text: &[u8], renamed: &BTreeMap<String, String>) -> Read<Model> {
-    let mut reader = Reader { cursor: Cursor::new(text), depth: 0, renamed };
+    let mut reader = Reader { cursor: Cursor::new(text), depth: 0, signs: 0, renamed };
     let mut model = Model { variables: Vec::new(), definitions: Vec::new(), system: Vec::new() };
     while reader.cursor.ahead(1) == "=" {
         model.variables.push(reader.variable()?);
@@ -43,6 +43,8 @@ pub fn read(text: &[u8], renamed: &BTreeMap<String, String>) -> Read<Model> {
 struct Reader<'a> {
     cursor: Cursor<'a>,
     depth: usize,
+    /// Since the present gate, prefix or call began.
+    signs: usize,
     renamed: &'a BTreeMap<String, String>,
 }
 
@@ -153,11 +155,15 @@ impl Reader<'_> {
         result
     }
 
-    fn short(&self, row: usize) -> Read<()> {
-        if row > DEEPEST {
+    /// Goes past a sign that joins two parts, if there aren't too many.
+    fn sign(&mut self) -> Read<&str> {
+        if self.signs == DEEPEST {
             return Err(self.unread("a shorter expression"));
         }
-        Ok(())
+        self.signs += 1;
+        let word = self.cursor.word();
+        self.cursor.pass();
+        Ok(word)
     }
 
     fn parallel(&mut self) -> Read<Process> {
@@ -177,6 +183,7 @@ impl Reader<'_> {
     }
 
     fn sequence(&mut self) -> Read<Process> {
+        self.signs = 0;
         self.deeper(|reader| match reader.cursor.word() {
             "[" => reader.gated(),
             "{" => reader.prefix(),
@@ -279,20 +286,18 @@ impl Reader<'_> {
     }
 
     fn condition(&mut self) -> Read<Condition> {
-        let (mut left, mut row) = (self.both()?, 0);
-        while self.cursor.take("|") {
-            row += 1;
-            self.short(row)?;
+        let mut left = self.both()?;
+        while self.cursor.word() == "|" {
+            self.sign()?;
             left = Condition::Or(Box::new(left), Box::new(self.both()?));
         }
         Ok(left)
     }
 
     fn both(&mut self) -> Read<Condition> {
-        let (mut left, mut row) = (self.relation()?, 0);
-        while self.cursor.take("&") {
-            row += 1;
-            self.short(row)?;
+        let mut left = self.relation()?;
+        while self.cursor.word() == "&" {
+            self.sign()?;
             left = Condition::And(Box::new(left), Box::new(self.relation()?));
         }
         Ok(left)
@@ -304,12 +309,13 @@ impl Reader<'_> {
             if reader.cursor.take("~") {
                 return Ok(Condition::Not(Box::new(reader.relation()?)));
             }
-            let mark = reader.cursor.mark();
+            let (mark, signs) = (reader.cursor.mark(), reader.signs);
             let plain = reader.plain_relation();
             if plain.is_ok() {
                 return plain;
             }
             reader.cursor.back_to(mark);
+            reader.signs = signs;
             if !reader.cursor.take("(") {
                 return plain;
             }
@@ -334,12 +340,9 @@ impl Reader<'_> {
 
     /// Operands joined from left to right by signs of one strength.
     fn joined(&mut self, signs: &[&str], operand: impl Fn(&mut Self) -> Read<Expr>) -> Read<Expr> {
-        let (mut left, mut row) = (operand(self)?, 0);
+        let mut left = operand(self)?;
         while signs.contains(&self.cursor.word()) {
-            row += 1;
-            self.short(row)?;
-            let sign = self.cursor.word().chars().next().unwrap_or(' ');
-            self.cursor.pass();
+            let sign = self.sign()?.chars().next().unwrap_or(' ');
             left = Expr::Op(sign, Box::new(left), Box::new(operand(self)?));
         }
         Ok(left)

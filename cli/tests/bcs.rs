@@ -10,9 +10,22 @@ fn imported(name: &str) -> common::Ran {
 
 #[test]
 fn what_can_be_said_is_accepted() {
-    for name in
-        ["s3_replication", "s5_walk", "s5_accelerate", "s5_bump", "s5_tau", "change", "diffusion", "channels", "sets"]
-    {
+    let names = [
+        "s3_replication",
+        "s5_walk",
+        "s5_accelerate",
+        "s5_bump",
+        "s5_tau",
+        "binding",
+        "change",
+        "channels",
+        "clock",
+        "diffusion",
+        "handshake",
+        "sets",
+        "surface",
+    ];
+    for name in names {
         let ran = imported(&format!("{name}.bc"));
         assert_eq!((ran.status, ran.err.as_str()), (0, ""), "{name}");
         let listed = on_text(&["list", "-"], &ran.out);
@@ -55,12 +68,15 @@ fn gates_sets_and_conditions_are_turned() {
 fn what_cant_be_said_is_named_with_its_line() {
     let bias = imported("s5_bias.bc");
     assert_eq!(bias.status, 1);
-    assert!(bias.err.contains("s5_bias.bc:7:30: a receive's rate can't use a name that it binds"), "{}", bias.err);
-    assert!(bias.err.contains("s5_bias.bc:12:23: 1/3 is no decimal"), "{}", bias.err);
+    for place in ["7:30", "12:23"] {
+        assert!(bias.err.contains(&format!("s5_bias.bc:{place}: 1/3 is no decimal")), "{}", bias.err);
+    }
     assert!(bias.out.contains("{@bump?[i+4],0.25}.K2[i]"), "{}", bias.out);
-    let clock = imported("clock.bc");
-    assert!(clock.status == 1 && clock.out.contains("AB[x] = {left_out,0};"), "{}", clock.out);
     let faults = [
+        ("A[r]={c?[1..r](x),x};A[1];", "1:19: a receive's rate can't use a name that it binds"),
+        ("A[]={c?[1..17](x),x};A[];", "1:19: a receive's rate can't use a name that it binds"),
+        ("A[]={c?[1 U 3](x),x};A[];", "1:19: a receive's rate can't use a name that it binds"),
+        ("A[]={c?[0..1](x),2/x};A[];", "1:18: a division by zero"),
         ("A[x]={a,1/x};A[1];", "1:9: a division by what isn't constant"),
         ("A[x]={a,sqrt(x)};A[1];", "1:9: sqrt can't be said"),
         ("A[x]={c![x],1}.A[x];A[0.5];", "1:7: a value with a point can't stand here"),
@@ -78,6 +94,26 @@ fn what_cant_be_said_is_named_with_its_line() {
         assert_eq!(ran.status, 1, "{text}");
         assert!(ran.err.contains(&format!("standard input:{message}")), "{text}: {}", ran.err);
     }
+}
+
+#[test]
+fn a_rate_by_a_bound_name_becomes_a_branch_for_each_value() {
+    let bias = imported("s5_bias.bc").out;
+    for line in ["K1[i] = {@bump?[i+1](x),1}.K1[i]", "      + {@bump?[i+5](x),0.2}.K1[i]"] {
+        assert!(bias.lines().any(|said| said == line), "{line}\n{bias}");
+    }
+    assert!(imported("clock.bc").out.contains("      + {state?[2](s),r*2}.(R[x+1,0] || R[x-1,1]);\n"));
+    let text = "n=2;A[i,r]={c?[0..9,i*3-n..i*3](x,y),y*max(1,2)}.A[x,y];A[1,0];";
+    let ran = on_text(&["import-bcs", "-"], text);
+    let expected = "n = 2;\n\
+                    A[i,r] = {c?[0..9,3*i-n](x,y),2*(3*i-n)}.A[x,y]\n       \
+                    + {c?[0..9,3*i+1-n](x,y),2*(3*i+1-n)}.A[x,y]\n       \
+                    + {c?[0..9,3*i+2-n](x,y),2*(3*i+2-n)}.A[x,y];\nA[1,0];\n";
+    assert_eq!((ran.status, ran.out.as_str()), (0, expected), "{}", ran.err);
+    // Nine receives one after another, sixteen values each.
+    let chain = "A[]=".to_string() + &vec!["{c?[1..16](x),x}"; 9].join(".") + ";A[];";
+    let ran = on_text(&["import-bcs", "-"], &chain);
+    assert!(ran.status == 1 && ran.err.contains("a branch for each value would be too long"), "{}", ran.err);
 }
 
 /// A branch whose call can't be said is left out, and the others stay.

@@ -146,9 +146,27 @@ impl Scope<'_> {
             return Err(format!("{name} takes {count} values"));
         }
         let forms = arguments.iter().map(|argument| self.form(argument)).collect::<Result<Vec<_>, _>>()?;
+        if let Some(number) = worked_out(name, &forms) {
+            return Ok(constant(number));
+        }
         let (scale, parts) = together(forms)?;
         Ok(Form { scale, whole: Some(Whole::Fun(name.to_string(), parts)) })
     }
+}
+
+/// What a function of constants is.
+fn worked_out(name: &str, forms: &[Form]) -> Option<Ratio> {
+    if forms.iter().any(|form| form.whole.is_some()) {
+        return None;
+    }
+    let [first, last] = [forms.first()?.scale, forms.last()?.scale];
+    let difference = last.plus(Ratio { above: first.above.checked_neg()?, ..first })?;
+    Some(match name {
+        "abs" => Ratio { above: first.above.checked_abs()?, ..first },
+        "max" if difference.above > 0 => last,
+        "min" if difference.above < 0 => last,
+        _ => first,
+    })
 }
 
 fn product(left: Form, right: Form) -> Formed {

@@ -2,10 +2,12 @@
 
 mod form;
 mod gates;
+mod linear;
 mod ratio;
 mod read;
 mod say;
 mod scales;
+mod spread;
 mod tree;
 
 use crate::args::{Command, Given};

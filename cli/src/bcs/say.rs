@@ -4,7 +4,9 @@ use super::form::{together, Form, Locals, Scope, Whole};
 use super::gates::{narrowed, Relations};
 use super::ratio::{Ratio, ONE};
 use super::scales::Scales;
+use super::spread::{each_value, uses};
 use super::tree::*;
+use crate::engine::TEXT;
 
 /// Digits that a decimal of our texts may have before and after its point.
 const BEFORE: usize = 6;
@@ -147,11 +149,16 @@ impl Sayer<'_> {
                 Err(trouble) => self.troubles.push(trouble),
             },
             Process::Prefix(action, rate, then) => {
-                match self
-                    .prefix(action, rate, gates, locals)
-                    .and_then(|words| Ok(words + &self.then(action, then, locals)?))
-                {
-                    Ok(words) => said.push(words),
+                let prefixes = self.prefixes(action, rate, gates, locals);
+                if prefixes.is_empty() {
+                    return;
+                }
+                match self.then(action, then, locals) {
+                    Ok(words) if prefixes.len() > 1 && prefixes.len() * words.len() > TEXT => {
+                        let what = "a branch for each value would be too long".to_string();
+                        self.troubles.push(Trouble { place: rate.place, what });
+                    }
+                    Ok(words) => said.extend(prefixes.into_iter().map(|prefix| prefix + &words)),
                     Err(trouble) => self.troubles.push(trouble),
                 }
             }
@@ -165,6 +172,21 @@ impl Sayer<'_> {
                 self.troubles.push(Trouble { place, what });
             }
         }
+    }
+
+    /// A prefix, or one for each value that its rate uses. What can't be said is noted and left out.
+    fn prefixes(&mut self, action: &At<Action>, rate: &At<Expr>, gates: &[Relations], locals: &Locals) -> Vec<String> {
+        let known = |name: &str| self.variable(name, locals);
+        let each = each_value(&action.it, &rate.it, &known).unwrap_or(vec![(action.it.clone(), rate.it.clone())]);
+        let mut said = Vec::new();
+        for (one, its_rate) in each {
+            let (one, its_rate) = (At { place: action.place, it: one }, At { place: rate.place, it: its_rate });
+            match self.prefix(&one, &its_rate, gates, locals) {
+                Ok(words) => said.push(words),
+                Err(trouble) => self.troubles.push(trouble),
+            }
+        }
+        said
     }
 
     fn prefix(&self, action: &At<Action>, rate: &At<Expr>, gates: &[Relations], locals: &Locals) -> Said {
@@ -298,9 +320,16 @@ impl Sayer<'_> {
         })
     }
 
+    /// The number of a variable that no local hides.
+    fn variable(&self, name: &str, locals: &Locals) -> Option<Ratio> {
+        if locals.iter().any(|(local, _)| local == name) {
+            return None;
+        }
+        self.model.variables.iter().find(|(given, _)| given == name).map(|(_, number)| *number)
+    }
+
     fn is_variable(&self, name: &str, locals: &Locals) -> bool {
-        let is_local = locals.iter().any(|(local, _)| local == name);
-        !is_local && self.model.variables.iter().any(|(given, number)| given == name && is_number(*number))
+        self.variable(name, locals).is_some_and(is_number)
     }
 
     /// A variable with a point, times what has none: the variable stays.
@@ -341,15 +370,6 @@ fn in_dialect(form: &Form) -> Option<String> {
         Some(Whole::Name(name)) if form.scale == ONE => name.clone(),
         Some(whole) => format!("{scale}*{}", whole.written(3)),
     })
-}
-
-fn uses(expr: &Expr, name: &str) -> bool {
-    match expr {
-        Expr::Number(_) => false,
-        Expr::Name(other) => other == name,
-        Expr::Op(_, left, right) => uses(left, name) || uses(right, name),
-        Expr::Fun(_, arguments) => arguments.iter().any(|argument| uses(argument, name)),
-    }
 }
 
 /// The locals after an action: names that it binds are whole.

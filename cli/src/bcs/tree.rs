@@ -26,14 +26,17 @@ pub enum Condition {
 }
 
 /// A value or a range of values.
+#[derive(Clone)]
 pub struct Range {
     pub first: Expr,
     pub last: Option<Expr>,
 }
 
 /// A union of intersections of differences: `\` binds most strongly, then `I`, then `U`.
+#[derive(Clone)]
 pub struct Set(pub Vec<Vec<Vec<Range>>>);
 
+#[derive(Clone)]
 pub enum Action {
     Wait(String),
     /// The sign before (`@` or nothing), the channel's items, `!` or `#`, and the values.

@@ -132,12 +132,14 @@ fn texts_of_great_depth() {
     let deep = format!("A[]={};A[];", "(".repeat(100_000));
     let long = format!("A[x]={{a,{}}};A[1];", vec!["x"; 100_000].join("+"));
     let many = format!("A[x]=[{}]->{{a,1}};A[1];", vec!["(x<1|x>2)"; 200].join("&"));
-    // Brackets one in another, each with a long sum or a long condition: more than a thousand of either, as a tree.
-    let wound = |inner: &str, more: &str| (0..900).fold(inner.to_string(), |inside, _| format!("({inside}{more})"));
-    let sums = format!("A[x]={{a,{}}};A[1];", wound("x", &"+x".repeat(500)));
-    let bound = format!("A[]={{c?[1..4](y),y*{}}};A[];", wound("2", &"+2".repeat(500)));
-    let gates = format!("A[x]=[{}]->{{a,1}};A[1];", wound("x<1", &"|x<1".repeat(200)));
-    for text in [deep, long, many, sums, bound, gates] {
+    // Brackets one in another, each with a sum or a condition: as a tree, they are as deep as all of them are long.
+    let wound = |inner: &str, more: &str| (0..90).fold(inner.to_string(), |inside, _| format!("({inside}{more})"));
+    let sums = format!("A[x]={{a,{}}};A[1];", wound("x", &"+x".repeat(30)));
+    let bound = format!("A[]={{c?[1..4](y),y*{}}};A[];", wound("2", &"+2".repeat(30)));
+    let gates = format!("A[x]=[{}]->{{a,1}};A[1];", wound("x<1", &"|x<1".repeat(20)));
+    let powers = format!("A[x]={{a,{}x{}}};A[1];", "(".repeat(12), "^8)".repeat(12));
+    let rows = format!("A[]={};A[];", vec!["{a,1}"; 5_000].join("+"));
+    for text in [deep, long, many, sums, bound, gates, powers, rows] {
         let ran = on_text(&["import-bcs", "-"], &text);
         assert!(ran.status == 1 && ran.err.starts_with("standard input:1:"), "{:.200}", ran.err);
     }

@@ -3,8 +3,9 @@
 use super::ratio::{Ratio, ONE};
 use super::tree::Expr;
 
-/// The largest exponent that is written out as a product.
+/// The largest exponent that is written out as a product, and the names and numbers of the longest product.
 const MOST_FACTORS: i128 = 8;
+const MOST_PARTS: usize = 1_000;
 
 /// An expression of whole numbers, as our texts have them.
 #[derive(Clone)]
@@ -133,6 +134,9 @@ impl Scope<'_> {
         let count = exponent.map(|exponent| exponent.above).filter(|count| (0..=MOST_FACTORS).contains(count));
         let count = count.ok_or("`^` can be said for whole exponents from 0 to 8 alone")?;
         let base = self.form(base)?;
+        if base.whole.as_ref().map_or(0, Whole::parts) * count as usize > MOST_PARTS {
+            return Err("`^` is too long as a product".to_string());
+        }
         (0..count).try_fold(constant(ONE), |left, _| product(left, base.clone()))
     }
 
@@ -187,6 +191,15 @@ pub fn together(forms: Vec<Form>) -> Result<(Ratio, Vec<Whole>), String> {
 }
 
 impl Whole {
+    /// How many names and numbers it has.
+    fn parts(&self) -> usize {
+        match self {
+            Whole::Number(_) | Whole::Name(_) => 1,
+            Whole::Op(_, left, right) => left.parts() + right.parts(),
+            Whole::Fun(_, parts) => parts.iter().map(Whole::parts).sum(),
+        }
+    }
+
     /// As our texts write it; `strength` is that of the sign around it.
     pub fn written(&self, strength: u8) -> String {
         match self {

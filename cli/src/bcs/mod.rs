@@ -18,11 +18,13 @@ use crate::text::{read_up_to, Text};
 use crate::tokens;
 use say::{Sayer, Trouble};
 use scales::Scales;
-use std::collections::BTreeMap;
+use std::collections::{BTreeMap, BTreeSet};
 use std::io::Write;
 
-/// Bytes of a bcs model that are read, and of a name of our texts.
+/// Bytes and tokens of a bcs model that are read: our texts have at most 4,096 tokens.
 const LONGEST: u64 = 1 << 20;
+const MOST_TOKENS: usize = 8_192;
+/// Bytes of a name of our texts.
 const NAME: usize = 16;
 
 pub const COMMAND: Command = Command {
@@ -38,7 +40,12 @@ pub const COMMAND: Command = Command {
 fn run(given: &Given, out: &mut dyn Write) -> Result<(), Failure> {
     let bytes = read_up_to(given.file(), LONGEST)?;
     let mut text = Text { name: crate::text::name(given.file()), bytes };
-    let renamed = renames(&text.bytes);
+    let tokens = tokens::split(&text.bytes);
+    if let Some(beyond) = tokens.get(MOST_TOKENS) {
+        let what = format!("more than {MOST_TOKENS} tokens can't be said");
+        return Err(Failure::Refused(told(&text, &Trouble { place: beyond.start, what })));
+    }
+    let renamed = renames(tokens.iter().map(|token| token.word(&text.bytes)).collect());
     let model = read::read(&text.bytes, &renamed).map_err(|unread| {
         let what = format!("this is no bcs model: {} should stand here", unread.wanted);
         Failure::Refused(told(&text, &Trouble { place: unread.place, what }))
@@ -72,20 +79,20 @@ fn opened(text: &Text) -> Result<(), Failure> {
     Err(Failure::Refused(words))
 }
 
-/// Shorter names for those that our texts can't have.
-fn renames(text: &[u8]) -> BTreeMap<String, String> {
-    let words: Vec<&str> = tokens::split(text).iter().map(|token| token.word(text)).collect();
-    let mut renamed: BTreeMap<String, String> = BTreeMap::new();
+/// Shorter names for those words that our texts can't have as names.
+fn renames(words: BTreeSet<&str>) -> BTreeMap<String, String> {
+    let mut renamed = BTreeMap::new();
+    let mut taken: BTreeSet<String> = words.iter().map(|word| word.to_string()).collect();
     for word in words.iter().filter(|word| tokens::is_name(word.as_bytes())) {
-        if (word.len() <= NAME && !["union", "inter"].contains(word)) || renamed.contains_key(*word) {
+        if word.len() <= NAME && !["union", "inter"].contains(word) {
             continue;
         }
         let short = (0..).map(|number: u64| {
             let tail = if number == 0 { "_".to_string() } else { format!("_{number}") };
             format!("{}{tail}", &word[..word.len().min(NAME - tail.len())])
         });
-        let is_new = |short: &String| !words.contains(&short.as_str()) && !renamed.values().any(|other| other == short);
-        let short = short.into_iter().find(is_new).unwrap_or_default();
+        let short = short.into_iter().find(|short| !taken.contains(short)).unwrap_or_default();
+        taken.insert(short.clone());
         renamed.insert(word.to_string(), short);
     }
     renamed

@@ -46,7 +46,8 @@ impl Ratio {
 
     /// The largest fraction of which both are whole multiples.
     pub fn common(self, other: Ratio) -> Option<Ratio> {
-        let above = divisor(self.above.checked_mul(other.below)?.abs(), other.above.checked_mul(self.below)?.abs());
+        let part = |above: i128, below: i128| above.checked_mul(below)?.checked_abs();
+        let above = divisor(part(self.above, other.below)?, part(other.above, self.below)?);
         Ratio::new(above, self.below.checked_mul(other.below)?)
     }
 

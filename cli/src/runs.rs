@@ -6,6 +6,7 @@ use crate::failure::Failure;
 use crate::model::{message, Model};
 use crate::progress::Progress;
 use crate::walk::{Bounds, End, Walk};
+use std::io::{self, Write};
 use std::sync::atomic::{AtomicU64, Ordering};
 use std::sync::Mutex;
 use std::thread;
@@ -120,10 +121,9 @@ impl Ends {
     /// Fails if a run was refused; says on standard error if some were cut short.
     pub fn judge(&self, model: &Model) -> Result<(), Failure> {
         if self.full > 0 {
-            eprintln!(
-                "{} of the runs ended after the steps of {}; a larger number lets them go on",
-                self.full, STEPS.name
-            );
+            let what = format!("{} of the runs ended after the steps of {}", self.full, STEPS.name);
+            // A remark that can't be shown is no reason to end.
+            let _ = writeln!(io::stderr(), "{what}; a larger number lets them go on");
         }
         let Some((run, number, steps)) = self.first else { return Ok(()) };
         let note = format!("run {run}, after {steps} steps; {} of the runs were refused\n", self.refused);

@@ -80,6 +80,15 @@ fn a_full_disk() {
     }
 }
 
+/// Standard error too may have no room: the table is whole.
+#[test]
+fn a_full_disk_for_messages() {
+    let full = OpenOptions::new().write(true).open("/dev/full").expect("/dev/full");
+    let words = ["simulate", &model("kinesin.bc"), "--steps", "20"];
+    let ran = matgravel().args(words).stderr(full).output().expect("it starts");
+    assert_eq!((ran.status.code(), ran.stdout), (Some(0), run(&words).out.into_bytes()));
+}
+
 /// Progress is shown where standard error is a terminal, which Python's pty makes, and nothing of it stays.
 #[test]
 fn a_terminal_sees_progress() {

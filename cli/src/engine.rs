@@ -9,6 +9,7 @@ const LISTING: usize = 7_168;
 const REPORT: usize = 64;
 const SAVES: usize = 41_008;
 const ENTRY: usize = 7;
+const EVENT: usize = 1 + ENTRY;
 const PROCESS: usize = 10;
 const FIRST_PROCESS: usize = 2;
 const FIRST_PAIR: usize = FIRST_PROCESS + 256 * PROCESS;
@@ -29,7 +30,7 @@ pub const HANDSHAKE: u64 = 7;
 pub struct Engine {
     model: Vec<u8>,
     pub state: State,
-    clock: Clock,
+    pub clock: Clock,
 }
 
 #[derive(Clone)]
@@ -69,6 +70,11 @@ pub struct Listing {
 }
 
 impl Entry {
+    /// May it light or put out a pair?
+    pub fn is_change(&self) -> bool {
+        [LAUNCH, KILL].contains(&self.kind)
+    }
+
     fn from(numbers: &[u64]) -> Entry {
         let &[kind, place, branch, partner, partner_branch, pair, weight] = numbers else { unreachable!() };
         Entry { kind, place, branch, partner, partner_branch, pair, weight }
@@ -110,12 +116,14 @@ impl Engine {
         linked::search(&self.model, &self.state.numbers, name, depth)
     }
 
-    /// Takes at most one timed step by these words and waiting draws.
-    pub fn run_one(&mut self, words: &[u64], waiting: &[u16]) -> (Ran, Event) {
-        let mut numbers = [0; 1 + ENTRY];
+    /// Takes at most so many timed steps by these words and waiting draws.
+    pub fn run(&mut self, words: &[u64], waiting: &[u16], limit: u64) -> (Ran, Vec<Event>) {
+        let mut numbers = vec![0; EVENT * limit as usize];
         let state = &mut self.state.numbers;
-        let ran = linked::run(&self.model, state, (words, waiting), &mut numbers, 1, &mut self.clock);
-        (ran, Event { ticks: numbers[0], entry: Entry::from(&numbers[1..]) })
+        let ran = linked::run(&self.model, state, (words, waiting), &mut numbers, limit, &mut self.clock);
+        let event = |numbers: &[u64]| Event { ticks: numbers[0], entry: Entry::from(&numbers[1..]) };
+        let events = numbers.chunks(EVENT).take(ran.steps as usize).map(event).collect();
+        (ran, events)
     }
 }
 

@@ -4,7 +4,7 @@ use crate::args::{Command, Given, Opt};
 use crate::csv;
 use crate::curve::{Curve, Times};
 use crate::decimal;
-use crate::engine::{channel_numbers, Channel, LAUNCH};
+use crate::engine::{channel_numbers, Channel};
 use crate::failure::Failure;
 use crate::model::{joined, Model};
 use crate::runs::{Ends, Plan, FIRST, RUNS, SEED, STEPS, THREADS, UNTIL};
@@ -59,13 +59,10 @@ fn run(given: &Given, out: &mut dyn Write) -> Result<(), Failure> {
 fn first_times(mut walk: Walk, channel: &Channel) -> (Times, End) {
     let mut times = Times::new();
     loop {
-        let event = match walk.step() {
+        let event = match walk.change() {
             Ok(event) => event,
             Err(end) => return (times, end),
         };
-        if event.entry.kind != LAUNCH {
-            continue;
-        }
         let lit = walk.engine.state.only_pair_without(&walk.before).filter(|pair| pair.is_on(channel));
         if let Some(pair) = lit {
             if times.iter().all(|(values, _)| values != pair.values()) {

@@ -19,6 +19,43 @@ fn threads_change_nothing() {
     }
 }
 
+/// The rows of `timing --times` without their seed, from the table of `simulate`: the first launch of each pair of a channel.
+fn first_launches(events: &str, channel: &str) -> Vec<String> {
+    let mut rows: Vec<String> = Vec::new();
+    for event in events.lines().skip(1) {
+        let (head, lit) = event.rsplit_once(',').expect("fields");
+        if lit.is_empty() || !head.ends_with(&format!(",{channel}")) || !head.contains('!') {
+            continue;
+        }
+        let fields: Vec<&str> = head.split(',').collect();
+        let row = |run: &str, time: &str| format!("{run},{channel},{lit},{time}");
+        if !rows.iter().any(|known| known.starts_with(&row(fields[0], ""))) {
+            rows.push(row(fields[0], fields[1]));
+        }
+    }
+    rows
+}
+
+/// `timing` takes several steps in one call, and `simulate` one.
+#[test]
+fn timing_and_simulate_make_the_same_runs() {
+    let often = "A[n]={c![n],5}.A[n+1]+{c![n/2],5}.A[n]+{c#[n-1],3}.A[n]+{c?[0..9](x),1}.A[x]+{on,4}.A[n];3*A[0];";
+    let models = [(std::fs::read_to_string(model("chromosome.bc")).expect("a model"), "chr"), (often.to_string(), "c")];
+    for (text, channel) in models {
+        for ends in [["--steps", "150"], ["--steps", "1"], ["--until", "3"], ["--until", "20"]] {
+            let runs = ["-", "--runs", "8", "--steps", "300", ends[0], ends[1]];
+            let events = on_text(&[&["simulate"][..], &runs].concat(), &text);
+            let times = on_text(&[&["timing", "--channel", channel, "--times"][..], &runs].concat(), &text);
+            let known = first_launches(&events.out, channel);
+            let rows = times.out.lines().skip(1).filter_map(|row| row.strip_prefix("1,"));
+            let rows: Vec<&str> = rows.filter(|row| !row.ends_with(",,")).collect();
+            assert_eq!(rows, known, "{ends:?}");
+            assert!(!rows.is_empty() || ends[1] == "1", "{ends:?}");
+            assert_eq!((times.status, times.err), (events.status, events.err));
+        }
+    }
+}
+
 #[test]
 fn parts_add_up_to_the_whole() {
     let (chromosome, folder) = (model("chromosome.bc"), folder("parts"));

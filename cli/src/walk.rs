@@ -63,7 +63,8 @@ impl Walk {
         self.next()
     }
 
-    /// Takes steps up to the next launch or kill, and perhaps others after it: it alone parts the pairs from those of `before`.
+    /// Takes steps up to the next launch or kill, and perhaps others after it: it alone parts the pairs from those of
+    /// `before`.
     pub fn change(&mut self) -> Result<Event, End> {
         loop {
             self.before.copy_from(&self.engine.state);
@@ -74,7 +75,8 @@ impl Walk {
         }
     }
 
-    /// Takes some steps from `before` on, of which at most one is a launch or a kill. Many in one call cost little more than one.
+    /// Takes some steps from `before` on, of which at most one is a launch or a kill. Many in one call cost little more
+    /// than one.
     fn leap(&mut self) -> Result<Vec<Event>, End> {
         let (limit, clock) = (self.reach.min(self.bounds.steps - self.taken), self.engine.clock);
         let (words, waiting) = self.draws.lend(WORDS * limit as usize, WAITING * limit as usize);

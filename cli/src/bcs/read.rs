@@ -5,7 +5,8 @@ use super::tree::*;
 use crate::tokens::{is_name, Cursor};
 use std::collections::BTreeMap;
 
-/// Brackets and prefixes one in another, and signs in the expressions of one gate, prefix or call, that are followed at most.
+/// Brackets and prefixes one in another, and signs in the expressions of one gate, prefix or call, that are followed at
+/// most.
 const DEEPEST: usize = 1_000;
 
 /// What was looked for, and the place where it isn't.

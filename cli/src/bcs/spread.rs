@@ -1,4 +1,5 @@
-//! A receive whose rate uses a name that it binds, as a branch for each value of a short range: our texts have no such rate.
+//! A receive whose rate uses a name that it binds, as a branch for each value of a short range: our texts have no such
+//! rate.
 
 use super::linear::Linear;
 use super::ratio::Ratio;

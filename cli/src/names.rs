@@ -79,7 +79,7 @@ mod tests {
     fn agrees(text: &[u8]) -> bool {
         let Ok(model) = second::model::read(text) else { return false };
         let tokens = tokens::split(text);
-        let tree = second::reader::read(&tokens, text.len()).ok().expect("it was read before");
+        let tree = second::reader::read(&tokens, text.len()).expect("it was read before");
         let names = Names::read(text);
         let words = String::from_utf8_lossy(text);
         assert_eq!(names.sum_count(), model.sums.len(), "{words}");

@@ -111,7 +111,7 @@ fn a_rate_by_a_bound_name_becomes_a_branch_for_each_value() {
                     + {c?[0..9,3*i+2-n](x,y),2*(3*i+2-n)}.A[x,y];\nA[1,0];\n";
     assert_eq!((ran.status, ran.out.as_str()), (0, expected), "{}", ran.err);
     // Nine receives one after another, sixteen values each.
-    let chain = "A[]=".to_string() + &vec!["{c?[1..16](x),x}"; 9].join(".") + ";A[];";
+    let chain = "A[]=".to_string() + &["{c?[1..16](x),x}"; 9].join(".") + ";A[];";
     let ran = on_text(&["import-bcs", "-"], &chain);
     assert!(ran.status == 1 && ran.err.contains("a branch for each value would be too long"), "{}", ran.err);
 }

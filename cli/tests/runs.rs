@@ -3,6 +3,9 @@
 mod common;
 
 use common::{fed, folder, is_there, matgravel, model, on_text, repository, run, written};
+use std::fs::Permissions;
+use std::os::unix::fs::PermissionsExt;
+use std::path::Path;
 use std::process::Command;
 
 const RUNS: usize = 12;
@@ -76,19 +79,31 @@ fn parts_add_up_to_the_whole() {
     }
 }
 
-/// examples/parallel.sh, where GNU parallel is there: byte for byte what one process prints.
+/// examples/parallel.sh: byte for byte what one process prints.
 #[test]
 fn the_example_for_parallel() {
-    if !is_there("parallel") {
-        eprintln!("GNU parallel isn't there");
-        return;
-    }
-    let out = folder("parallel").join("timing.csv");
+    let folder = folder("parallel");
+    let out = folder.join("timing.csv");
     let mut script = Command::new(repository().join("examples/parallel.sh"));
     script.args([&model("chromosome.bc"), "chr", "12", "5"]).arg(&out).env("MATGRAVEL", matgravel().get_program());
+    if !is_there("parallel") {
+        script.env("PATH", path_with_parallel(&folder));
+    }
     assert!(script.status().expect("it starts").success());
     let whole = run(&["timing", &model("chromosome.bc"), "--channel", "chr", "--runs", "12"]);
     assert!(std::fs::read_to_string(out).expect("a table") == whole.out);
+}
+
+/// A path on which a program stands in for GNU parallel: it makes one line after the other.
+fn path_with_parallel(folder: &Path) -> String {
+    let program = "#!/usr/bin/env bash\n\
+                   while read -r first second; do\n\
+                   line=${3//\\{1\\}/$first}\n\
+                   bash -c \"${line//\\{2\\}/$second}\" || exit\n\
+                   done\n";
+    let file = written(folder, "parallel", program);
+    std::fs::set_permissions(file, Permissions::from_mode(0o755)).expect("a program");
+    format!("{}:{}", folder.display(), std::env::var("PATH").unwrap_or_default())
 }
 
 #[test]

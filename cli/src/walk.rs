@@ -51,7 +51,7 @@ impl Walk {
     /// Takes every step within the bounds. `before` is the last state then.
     pub fn last(&mut self) -> End {
         loop {
-            if let Err(end) = self.step() {
+            if let Err(end) = self.change() {
                 return end;
             }
         }

@@ -9,7 +9,7 @@ use crate::failure::Failure;
 use crate::timing::GRID;
 use crate::{simulate, text, timing};
 use std::collections::BTreeMap;
-use std::fs::File;
+use std::ffi::OsStr;
 use std::io::{self, BufRead, BufReader, Read, Write};
 
 pub const COMMAND: Command = Command {
@@ -26,7 +26,7 @@ fn run(given: &Given, out: &mut dyn Write) -> Result<(), Failure> {
     let head = tables[0].line.clone();
     for table in &mut tables {
         if table.line != head {
-            return Err(table.wrong(&format!("its head isn't that of {}", given.files[0])));
+            return Err(table.wrong(&format!("its head isn't that of {}", text::name(&given.files[0]))));
         }
         table.next()?;
     }
@@ -43,19 +43,16 @@ fn run(given: &Given, out: &mut dyn Write) -> Result<(), Failure> {
 /// A table that is read line by line.
 struct Table {
     name: String,
-    lines: Box<dyn BufRead>,
+    lines: BufReader<Box<dyn Read>>,
     /// The present line, with its end; empty after the last.
     line: String,
     number: u64,
 }
 
 impl Table {
-    fn open(file: &str) -> Result<Table, Failure> {
+    fn open(file: &OsStr) -> Result<Table, Failure> {
         let name = text::name(file);
-        let lines: Box<dyn BufRead> = match file {
-            "-" => Box::new(BufReader::new(io::stdin())),
-            _ => Box::new(BufReader::new(File::open(file).map_err(|error| unread(&name, error))?)),
-        };
+        let lines = BufReader::new(text::opened(file).map_err(|error| unread(&name, error))?);
         let mut table = Table { name, lines, line: String::new(), number: 0 };
         table.next()?;
         Ok(table)

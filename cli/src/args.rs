@@ -2,7 +2,9 @@
 
 use crate::decimal;
 use crate::failure::Failure;
+use std::ffi::{OsStr, OsString};
 use std::io::Write;
+use std::slice::Iter;
 
 /// An option: its name, what stands after it (nothing for a switch), and its line of help.
 pub struct Opt {
@@ -41,32 +43,21 @@ pub fn line(what: &str, about: &str) -> String {
 
 /// What a command line gave to a command.
 pub struct Given {
-    pub files: Vec<String>,
+    /// Names that need not be text.
+    pub files: Vec<OsString>,
     values: Vec<(&'static str, String)>,
 }
 
 /// Reads the words after the command's name.
-pub fn read(command: &Command, words: &[String]) -> Result<Given, Failure> {
+pub fn read(command: &Command, words: &[OsString]) -> Result<Given, Failure> {
     let mut given = Given { files: Vec::new(), values: Vec::new() };
     let mut words = words.iter();
     while let Some(word) = words.next() {
-        if !word.starts_with('-') || word == "-" {
+        if word == "-" || !word.to_string_lossy().starts_with('-') {
             given.files.push(word.clone());
-            continue;
+        } else {
+            given.values.push(option(command, &word.to_string_lossy(), &mut words)?);
         }
-        let (name, joined) = match word.split_once('=') {
-            Some((name, value)) => (name, Some(value.to_string())),
-            None => (word.as_str(), None),
-        };
-        let option = command.options.iter().find(|option| option.name == name);
-        let option = option.ok_or_else(|| wrong(command, &format!("there is no option {name}")))?;
-        let value = match (option.value, joined) {
-            ("", None) => String::new(),
-            ("", Some(_)) => return Err(wrong(command, &format!("{name} takes no value"))),
-            (_, Some(value)) => value,
-            (what, None) => words.next().cloned().ok_or_else(|| wrong(command, &format!("{name} needs its {what}")))?,
-        };
-        given.values.push((option.name, value));
     }
     let several = command.files.ends_with("..");
     if given.files.is_empty() || (!several && given.files.len() > 1) {
@@ -75,12 +66,32 @@ pub fn read(command: &Command, words: &[String]) -> Result<Given, Failure> {
     Ok(given)
 }
 
+/// An option and its value, which stands behind `=` or is the next word.
+fn option(command: &Command, word: &str, rest: &mut Iter<OsString>) -> Result<(&'static str, String), Failure> {
+    let (name, joined) = match word.split_once('=') {
+        Some((name, value)) => (name, Some(value.to_string())),
+        None => (word, None),
+    };
+    let option = command.options.iter().find(|option| option.name == name);
+    let option = option.ok_or_else(|| wrong(command, &format!("there is no option {name}")))?;
+    let value = match (option.value, joined) {
+        ("", None) => String::new(),
+        ("", Some(_)) => return Err(wrong(command, &format!("{name} takes no value"))),
+        (_, Some(value)) => value,
+        (what, None) => {
+            let next = rest.next().map(|value| value.to_string_lossy().into_owned());
+            next.ok_or_else(|| wrong(command, &format!("{name} needs its {what}")))?
+        }
+    };
+    Ok((option.name, value))
+}
+
 fn wrong(command: &Command, what: &str) -> Failure {
     Failure::Usage(format!("{what}\nusage: {} [options]; --help says more", command.usage()))
 }
 
 impl Given {
-    pub fn file(&self) -> &str {
+    pub fn file(&self) -> &OsStr {
         &self.files[0]
     }
 

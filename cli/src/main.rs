@@ -34,6 +34,7 @@ mod walk;
 
 use args::Command;
 use failure::Failure;
+use std::ffi::OsString;
 use std::io::{self, BufWriter, Write};
 use std::process::ExitCode;
 
@@ -50,7 +51,7 @@ const COMMANDS: &[&Command] = &[
 ];
 
 fn main() -> ExitCode {
-    let words: Vec<String> = std::env::args_os().skip(1).map(|word| word.to_string_lossy().into_owned()).collect();
+    let words: Vec<OsString> = std::env::args_os().skip(1).collect();
     let thread = std::thread::Builder::new().stack_size(engine::STACK).spawn(move || ended(&words));
     match thread.map(|thread| thread.join()) {
         Ok(Ok(status)) => ExitCode::from(status),
@@ -59,7 +60,7 @@ fn main() -> ExitCode {
 }
 
 /// Runs a command line, prints its output and its error, and gives the exit status.
-fn ended(words: &[String]) -> u8 {
+fn ended(words: &[OsString]) -> u8 {
     let mut out = BufWriter::with_capacity(1 << 16, io::stdout().lock());
     let done = run(words, &mut out).and_then(|()| Ok(out.flush()?));
     let Err(failure) = done else { return 0 };
@@ -71,13 +72,14 @@ fn ended(words: &[String]) -> u8 {
     failure.status()
 }
 
-fn run(words: &[String], out: &mut dyn Write) -> Result<(), Failure> {
-    let is_there = |long: &str, short: &str| words.iter().any(|word| word == long || word == short);
+fn run(words: &[OsString], out: &mut dyn Write) -> Result<(), Failure> {
+    let is_there = |long, short| words.iter().any(|word| word == long || word == short);
     if is_there("--version", "-V") {
         return Ok(writeln!(out, "matgravel {}", env!("CARGO_PKG_VERSION"))?);
     }
-    let is_first = words.first().is_some_and(|word| ["help", "--help", "-h"].contains(&word.as_str()));
-    let name = words.get(usize::from(is_first)).map(String::as_str);
+    let is_first = words.first().is_some_and(|word| word == "help" || word == "--help" || word == "-h");
+    let name = words.get(usize::from(is_first)).map(|word| word.to_string_lossy());
+    let name = name.as_deref();
     let asks_help = is_first || is_there("--help", "-h");
     if asks_help && name.is_none() {
         return Ok(out.write_all(help().as_bytes())?);

@@ -5,6 +5,7 @@ use crate::failure::Failure;
 use crate::names::Names;
 use crate::refusals::refusal;
 use crate::text::Text;
+use std::ffi::OsStr;
 
 pub struct Model {
     pub text: Text,
@@ -18,7 +19,7 @@ pub struct Model {
 
 impl Model {
     /// Reads and opens a file. A refusal has its message.
-    pub fn open(file: &str, steady: bool) -> Result<Model, Failure> {
+    pub fn open(file: &OsStr, steady: bool) -> Result<Model, Failure> {
         let text = Text::read(file)?;
         let start = Engine::open(&text.bytes, steady).map_err(|answer| refused_text(&text, answer))?;
         let names = Names::read(&text.bytes);

@@ -3,6 +3,7 @@
 use crate::engine::TEXT;
 use crate::failure::Failure;
 use crate::tokens;
+use std::ffi::OsStr;
 use std::fs::File;
 use std::io::{self, Read};
 
@@ -16,7 +17,7 @@ pub struct Text {
 
 impl Text {
     /// Reads a model from a file, or from standard input for `-`. More than a text may have isn't read.
-    pub fn read(file: &str) -> Result<Text, Failure> {
+    pub fn read(file: &OsStr) -> Result<Text, Failure> {
         read_up_to(file, TEXT as u64 + 1).map(|bytes| Text { name: name(file), bytes })
     }
 
@@ -81,16 +82,18 @@ fn printable(byte: u8) -> char {
 }
 
 /// What messages call a file.
-pub fn name(file: &str) -> String {
-    if file == "-" { "standard input" } else { file }.to_string()
+pub fn name(file: &OsStr) -> String {
+    if file == "-" { "standard input".into() } else { file.to_string_lossy() }.into_owned()
+}
+
+/// A file, or standard input for `-`.
+pub fn opened(file: &OsStr) -> io::Result<Box<dyn Read>> {
+    Ok(if file == "-" { Box::new(io::stdin()) } else { Box::new(File::open(file)?) })
 }
 
 /// The first bytes of a file.
-pub fn read_up_to(file: &str, limit: u64) -> Result<Vec<u8>, Failure> {
+pub fn read_up_to(file: &OsStr, limit: u64) -> Result<Vec<u8>, Failure> {
     let mut bytes = Vec::new();
-    let read = match file {
-        "-" => io::stdin().lock().take(limit).read_to_end(&mut bytes),
-        _ => File::open(file).and_then(|opened| opened.take(limit).read_to_end(&mut bytes)),
-    };
+    let read = opened(file).and_then(|opened| opened.take(limit).read_to_end(&mut bytes));
     read.map(|_| bytes).map_err(|error| Failure::File(format!("{}: {error}", name(file))))
 }

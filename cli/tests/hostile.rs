@@ -3,7 +3,9 @@
 mod common;
 
 use common::{fed, folder, matgravel, model, on_text, run, written};
+use std::ffi::OsStr;
 use std::fs::OpenOptions;
+use std::os::unix::ffi::OsStrExt;
 use std::process::{Command, Stdio};
 
 const READERS: [&[&str]; 8] = [
@@ -55,6 +57,18 @@ fn a_file_of_two_gigabytes() {
     let ran = run(&["add", &name]);
     assert_eq!((ran.status, ran.out.as_str()), (2, ""), "{}", ran.err);
     std::fs::remove_file(file).expect("it was there");
+}
+
+#[test]
+fn a_name_that_is_no_text() {
+    let file = folder("names").join(OsStr::from_bytes(b"lamp\xff.bc"));
+    std::fs::copy(model("sheet.bc"), &file).expect("a copy");
+    for (words, status) in [(&["list"][..], 0), (&["add"], 2)] {
+        let ran = matgravel().args(words).arg(&file).output().expect("it starts");
+        let error = String::from_utf8_lossy(&ran.stderr);
+        assert_eq!(ran.status.code(), Some(status), "{error}");
+        assert!(!error.contains("No such file"), "{error}");
+    }
 }
 
 #[test]

@@ -15,7 +15,8 @@ use Rattle.machine.specs.Evaluate.{given, eval_channel, eval_all, eval_set, eval
 use Rattle.model.specs.Good.{Every, names_bound}
 use Rattle.machine.specs.State.{GoodPair}
 use Rattle.machine.proofs.Everys.{every-nth}
-use Rattle.machine.proofs.Parts.{given_is, some_is, all-length, Comes, bare, opened}
+use Rattle.machine.proofs.Parts.{given_is, some_is, all-length}
+use Rattle.machine.proofs.Offering.{Comes, bare, opened}
 use Rattle.machine.proofs.Ranges.{GoodOffer}
 
 -- how many names an evaluated action binds

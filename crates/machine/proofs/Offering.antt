@@ -13,6 +13,33 @@ use Rattle.machine.specs.Offering.{Sent, Asked, Acting, waits, launches, kills, 
 use Rattle.machine.proofs.Parts.{given_is, some_is}
 
 module _ (ls : List ℤ) where
+  -- ---- to evaluation
+  pair_is : (c : Resolved.Channel) (es : List Resolved.Expr) (x : offers.Pair) → Sent ls c es x → eval_pair ls c es ≡ some x
+  unfolding eval_pair given
+  pair_is c es x h = rw (h.channel, h.values)
+
+  query-is : (c : Resolved.Channel) (ss : List Resolved.Set) (w : offers.Query) → Asked ls c ss w → eval_query ls c ss ≡ some w
+  unfolding eval_query given
+  query-is c ss w h = rw (h.channel, h.sets)
+
+  action-is : (p : Resolved.Action) (a : offers.Action) → Acting ls p a → eval_action ls p ≡ some a
+  unfolding eval_action given
+  action-is p a waits = refl
+  action-is p a (launches {c} {es} {x} h) = rw (pair_is c es x h)
+  action-is p a (kills {c} {es} {x} h) = rw (pair_is c es x h)
+  action-is p a (receives {c} {ss} {w} h) = rw (query-is c ss w h)
+  action-is p a (binds {c} {ss} {w} h) = rw (query-is c ss w h)
+  action-is p a (checks {c} {ss} {w} h) = rw (query-is c ss w h)
+  action-is p a (sends {c} {es} {x} h) = rw (pair_is c es x h)
+  action-is p a (takes {c} {ss} {w} h) = rw (query-is c ss w h)
+  action-is p a (takes_bind {c} {ss} {w} h) = rw (query-is c ss w h)
+
+  pub branch-is : (b : Resolved.Branch) (g : offers.Guard) → Offering ls b g → eval_branch ls b ≡ some g
+  unfolding eval_branch eval_gate eval_offer given
+  branch-is b g (ungated {a} {r} h p) = rw (h, p.rate, action-is b.action a p.action)
+  branch-is b g (open-gate {c} {a} {r} h k p) = rw (h, k, p.rate, action-is b.action a p.action)
+  branch-is b g (shut-gate {c} h k) = rw (h, k)
+
   -- ---- from evaluation
   sent : (c : Resolved.Channel) (es : List Resolved.Expr) (x : offers.Pair) → eval_pair ls c es ≡ some x → Sent ls c es x
   unfolding eval_pair
@@ -67,33 +94,21 @@ module _ (ls : List ℤ) where
       go none h e = parted offers.bare (λ a r p. ungated h p) e
       go (some c) h e = let v = given_is (eval_cond ls c) _ g e in gate c h v.part v.is v.rest
 
-  -- ---- to evaluation
-  pair_is : (c : Resolved.Channel) (es : List Resolved.Expr) (x : offers.Pair) → Sent ls c es x → eval_pair ls c es ≡ some x
-  unfolding eval_pair given
-  pair_is c es x h = rw (h.channel, h.values)
-
-  query-is : (c : Resolved.Channel) (ss : List Resolved.Set) (w : offers.Query) → Asked ls c ss w → eval_query ls c ss ≡ some w
-  unfolding eval_query given
-  query-is c ss w h = rw (h.channel, h.sets)
-
-  action-is : (p : Resolved.Action) (a : offers.Action) → Acting ls p a → eval_action ls p ≡ some a
-  unfolding eval_action given
-  action-is p a waits = refl
-  action-is p a (launches {c} {es} {x} h) = rw (pair_is c es x h)
-  action-is p a (kills {c} {es} {x} h) = rw (pair_is c es x h)
-  action-is p a (receives {c} {ss} {w} h) = rw (query-is c ss w h)
-  action-is p a (binds {c} {ss} {w} h) = rw (query-is c ss w h)
-  action-is p a (checks {c} {ss} {w} h) = rw (query-is c ss w h)
-  action-is p a (sends {c} {es} {x} h) = rw (pair_is c es x h)
-  action-is p a (takes {c} {ss} {w} h) = rw (query-is c ss w h)
-  action-is p a (takes_bind {c} {ss} {w} h) = rw (query-is c ss w h)
-
-  pub branch-is : (b : Resolved.Branch) (g : offers.Guard) → Offering ls b g → eval_branch ls b ≡ some g
-  unfolding eval_branch eval_gate eval_offer given
-  branch-is b g (ungated {a} {r} h p) = rw (h, p.rate, action-is b.action a p.action)
-  branch-is b g (open-gate {c} {a} {r} h k p) = rw (h, k, p.rate, action-is b.action a p.action)
-  branch-is b g (shut-gate {c} h k) = rw (h, k)
-
 -- 000, (18), and 01, Values: a branch is evaluated to a guard exactly where it offers that
 pub offers-exactly : (ls : List ℤ) (b : Resolved.Branch) (g : offers.Guard) → (eval_branch ls b ≡ some g) ↔ Offering ls b g
 offers-exactly ls b g = (offering ls b g, branch-is ls b g)
+
+-- ---- parts
+-- where a guard's action and rate come from
+pub data Comes (ls : List ℤ) (b : Resolved.Branch) : offers.Guard → Type 0 where
+  bare : {a : offers.Action} {r : ℕ} → eval_rate ls b.rate ≡ some r → eval_action ls b.action ≡ some a → Comes ls b (offers.bare a r)
+  opened : {a : offers.Action} {r : ℕ} → eval_rate ls b.rate ≡ some r → eval_action ls b.action ≡ some a → Comes ls b (offers.opened a r)
+  shut : Comes ls b offers.shut
+
+pub comes : (ls : List ℤ) (b : Resolved.Branch) (g : offers.Guard) → eval_branch ls b ≡ some g → Comes ls b g
+comes ls b g e = parts (offering ls b g e)
+  where
+    parts : {g : offers.Guard} → Offering ls b g → Comes ls b g
+    parts (ungated {a} {r} h p) = bare p.rate (action-is ls b.action a p.action)
+    parts (open-gate {c} {a} {r} h k p) = opened p.rate (action-is ls b.action a p.action)
+    parts (shut-gate h k) = shut

@@ -1,7 +1,6 @@
--- What has a value has parts that have values: values, lists and guards are taken apart. By cases.
-use mathlib.Core.Path.{◌≡◌, refl, sym, ap, subst}
+-- What has a value has parts that have values: values and lists are taken apart. By cases.
+use mathlib.Core.Path.{◌≡◌, refl, sym, ap}
 use mathlib.Core.List.{List, [], ◌∷◌}
-use mathlib.Core.Bool.{Bool, true, false, cond}
 use mathlib.Core.Option.{Option, none, some}
 use Prim.Native.Nat.{ℕ}
 use native.Mathlib.Omega.{arith}
@@ -9,9 +8,7 @@ use lib.IntN.{ℤ}
 use lib.ListN.{length}
 use Rattle.std.specs.Prelude.{None, Some}
 use Rattle.value.specs.Range.{Value}
-use Rattle.model.specs.Resolved
-use Rattle.rules.specs.Offers as offers
-use Rattle.machine.specs.Evaluate.{with_value, valued, given, eval_rate, eval_all, eval_action, eval_cond, eval_offer, eval_gate, eval_branch}
+use Rattle.machine.specs.Evaluate.{with_value, valued, given, eval_all}
 use Rattle.machine.proofs.Branches.{none-not-some}
 
 -- ---- parts that have values
@@ -63,30 +60,3 @@ module _ {A B : Type 0} (f : A → Option B) where
       let v = given_is (f x) _ ys e in
       let u = given_is (eval_all f xs) _ ys v.rest in
       omega (arith, ap length (some_is _ ys u.rest), all-length xs u.part u.is)
-
--- ---- branches
-
--- where a guard's action and rate come from
-pub data Comes (ls : List ℤ) (b : Resolved.Branch) : offers.Guard → Type 0 where
-  bare : {a : offers.Action} {r : ℕ} → eval_rate ls b.rate ≡ some r → eval_action ls b.action ≡ some a → Comes ls b (offers.bare a r)
-  opened : {a : offers.Action} {r : ℕ} → eval_rate ls b.rate ≡ some r → eval_action ls b.action ≡ some a → Comes ls b (offers.opened a r)
-  shut : Comes ls b offers.shut
-
-pub comes : (ls : List ℤ) (b : Resolved.Branch) (g : offers.Guard) → eval_branch ls b ≡ some g → Comes ls b g
-unfolding eval_branch eval_gate eval_offer
-comes ls b g q = go b.gate q
-  where
-    parted : (f : offers.Action → ℕ → offers.Guard) → ((a : offers.Action) (r : ℕ) → eval_rate ls b.rate ≡ some r → eval_action ls b.action ≡ some a → Comes ls b (f a r))
-        → eval_offer ls f b ≡ some g → Comes ls b g
-    parted f h e =
-        let v = given_is (eval_rate ls b.rate) _ g e in
-        let u = given_is (eval_action ls b.action) _ g v.rest in
-        subst (Comes ls b) (some_is _ g u.rest) (h u.part v.part v.is u.is)
-
-    gate : (t : Bool) → cond t (eval_offer ls offers.opened b) (some offers.shut) ≡ some g → Comes ls b g
-    gate true e = parted offers.opened (λ a r h k. opened h k) e
-    gate false e = subst (Comes ls b) (some_is _ g e) shut
-
-    go : (o : Option Resolved.Cond) → eval_gate ls o b ≡ some g → Comes ls b g
-    go none e = parted offers.bare (λ a r h k. bare h k) e
-    go (some c) e = let v = given_is (eval_cond ls c) _ g e in gate v.part v.rest

@@ -22,7 +22,8 @@ use Rattle.machine.specs.Evaluate.{given, apply, eval_expr, joined, eval_set, ra
 use Rattle.model.specs.Good.{Every, OneOrTwo, GoodExpr, GoodSet, GoodName, GoodValues, GoodSets, GoodAction, GoodBranch}
 use Rattle.machine.specs.State.{GoodItem, GoodChannel, GoodPair}
 use Rattle.machine.proofs.Branches.{none-not-some}
-use Rattle.machine.proofs.Parts.{with-is, valued-is, given_is, some_is, all-length, Comes, bare, opened, shut, comes}
+use Rattle.machine.proofs.Parts.{with-is, valued-is, given_is, some_is, all-length}
+use Rattle.machine.proofs.Offering.{Comes, bare, opened, shut, comes}
 use Rattle.machine.proofs.Everys.{every_get}
 
 -- ---- rates

@@ -29,7 +29,7 @@ use Rattle.machine.specs.Machine.{copies, start_processes, opened_state}
 use Rattle.machine.specs.Questions.{Ready}
 use Rattle.machine.proofs.Branches.{Writes, writes}
 use Rattle.machine.proofs.Everys.{every_in, in-every, every-nth, every_append, every-replace, every-replace_both}
-use Rattle.machine.proofs.Parts.{comes}
+use Rattle.machine.proofs.Offering.{comes}
 use Rattle.machine.proofs.Ranges.{action-good, GoodOffer}
 use Rattle.machine.proofs.Continues.{called-good, next-good, at-good}
 use Rattle.machine.proofs.Bound.{names-bound, label-action, BoundGood, alone-bound, accepted-bound, GoodChange, change-good}
@@ -74,7 +74,7 @@ module _ (m : Resolved.Model) (good : GoodModel m) where
   pub opened-good : opening.processes_at_start m.definitions m.starts ≤ process_limit → GoodState m (opened_state m)
   unfolding opened_state Every Ascending
   opened-good l = record {
-    few-processes = rw (start-count m m.starts) l;
+    few-processes = omega (arith, start-count m m.starts, l);
     processes = starts-good m.starts good.starts;
     few-pairs = omega arith;
     pairs = tt;
@@ -150,9 +150,9 @@ module _ (m : Resolved.Model) (good : GoodModel m) where
     moves-good {n = n} h l f =
         let t = moved h in
         record {
-          few-processes = l;
+          few-processes = omega (arith, l);
           processes = t.processes;
-          few-pairs = f;
+          few-pairs = omega (arith, f);
           pairs = pairs-good n s.pairs state.ascending t.change state.pairs;
           ascending = pairs-ascend n s.pairs state.ascending;
         }

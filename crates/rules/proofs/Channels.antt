@@ -1,5 +1,5 @@
 -- The numbers of channels in order: what the rows of a state's pairs need of them. By cases of the item count, from the laws of an item.
-use mathlib.Core.Path.{◌≡◌, refl, ap, ap₂}
+use mathlib.Core.Path.{◌≡◌, refl, sym, ap, ap₂, ◌∙◌}
 use mathlib.Core.Bool.{Bool, true, false, ◌&&◌, ◌||◌}
 use mathlib.Core.List.{List, ◌∷◌, ◌++◌}
 use Prim.Native.Nat.{◌+◌}
@@ -42,8 +42,8 @@ same_number x y t w e f = go (is_less x y) (is_same x y) refl e f
 between-item : (c d : Item) (u v w : List ℤ) → less (item_numbers d u) (item_numbers c v) ≡ false → less (item_numbers d u) (item_numbers c w) ≡ true → (d ≡ c) × (less u v ≡ false) × (less u w ≡ true)
 unfolding less item_numbers item_kind item_value
 between-item (number y) (number x) u v w e f = let r = same_number x y (less u v) (less u w) e f in (ap number r.0, r.1, r.2)
-between-item (named n) (number x) u v w e f = true-not-false e
-between-item (number y) (named m) u v w e f = false-not-true f
+between-item (named n) (number x) u v w e f = false-not-true (sym e ∙ f)
+between-item (number y) (named m) u v w e f = false-not-true (sym e ∙ f)
 between-item (named n) (named m) u v w e f = let r = same_number (pos m) (pos n) (less u v) (less u w) e f in (ap (λ (z : ℤ). named (nat_abs z)) r.0, r.1, r.2)
 
 -- ---- channels

@@ -1,6 +1,6 @@
 -- A channel name that is used has its number among the channel names. By induction on where its branch stands, and on the list of uses.
 use mathlib.Core.Path.{◌≡◌, refl, ap, subst, ◌∙◌}
-use mathlib.Core.List.Memᴰ.{append_left as left}
+use mathlib.Core.List.Memᴰ.{append_cases, append_left as left}
 use mathlib.Core.List.Memᴰ.{append_right as right}
 use mathlib.Core.List.Memᴰ.{cases_cons as cases}
 use mathlib.Core.List.Memᴰ.{eq_of_singleton}
@@ -20,7 +20,7 @@ use Rattle.model.specs.Words.{same}
 use Rattle.model.specs.Given.{place_in}
 use Rattle.model.specs.Resolved.{action_use, branch_uses, branches_uses, sum_uses, cont_uses, conts_uses, sums_uses, definition_uses, firsts, channel_names, or_zero}
 use Rattle.model.specs.Stands.{branches_of, branches_in, items_of, sums_of, Holds, itself, grouped, SumIn, defined, continued, BranchIn}
-use Rattle.model.proofs.Members.{not-both, each_in, got_in, got-below, any-in}
+use Rattle.model.proofs.Members.{each_in, got_in, got-below, any-in}
 use Rattle.model.proofs.Repeats.{same_bytes_lem}
 use Rattle.model.proofs.Meanings.{Placed, found, absent, placed}
 
@@ -92,23 +92,22 @@ module _ (w : ℕ → List ℕ) (vs : List Variable) where
   pub first_of : {k : ℕ} (seen ks : List ℕ) → In k ks → Met (firsts w vs seen ks) k
   unfolding firsts
   first_of seen [] i = absurd (nowhere i)
-  first_of {k} seen (x ∷ ks) i = by _ (λ e f. cc) (λ (y : ℕ) (l : In y ks). first_of seen ks l) (λ (l : In k ks). first_of (seen ++ x ∷ []) ks l) (cases i)
+  first_of {k} seen (x ∷ ks) i = by _ _ refl (λ j l. search (left ks l, right seen l)) (λ (y : ℕ) (l : In y ks). first_of seen ks l) (λ (l : In k ks). first_of (seen ++ x ∷ []) ks l) (cases i)
     where
-      -- a name that is seen, or used later
-      met : (b c : Bool) → any (same w x) seen ≡ b → any (same w x) ks ≡ c → (b ≡ false → c ≡ false → true ≡ false) → ((y : ℕ) → In y ks → Met (firsts w vs seen ks) y) → Met (firsts w vs seen ks) x
-      met true c e f h p = let s = any-in (same w x) seen e in (s.0, stays seen ks s.1, same_bytes_lem w x s.0 s.2)
-      met false true e f h p =
-          let s = any-in (same w x) ks f in
-          let r = p s.0 s.1 in
-          (r.0, r.1, same_bytes_lem w x s.0 s.2 ∙ r.2)
-      met false false e f h p = not-both refl (h refl refl)
+      -- x is seen, or used later
+      known : {j : ℕ} → In j seen ⊎ In j ks → ((y : ℕ) → In y ks → Met (firsts w vs seen ks) y) → Met (firsts w vs seen ks) j
+      known {j} (inl l) p = (j, stays seen ks l, refl)
+      known {j} (inr l) p = p j l
 
-      by : (b : Bool) → (any (same w x) seen ≡ false → any (same w x) ks ≡ false → b ≡ false) → ((y : ℕ) → In y ks → Met (firsts w vs seen ks) y) → (In k ks → Met (firsts w vs (seen ++ x ∷ []) ks) k)
-          → (k ≡ x) ⊎ In k ks → Met (cond b (firsts w vs seen ks) (firsts w vs (seen ++ x ∷ []) ks)) k
-      by true h p q (inl d) = let r = met _ _ refl refl h p in (r.0, r.1, ap w d ∙ r.2)
-      by true h p q (inr l) = p k l
-      by false h p q (inl d) = (x, stays (seen ++ x ∷ []) ks (right seen (head refl)), ap w d)
-      by false h p q (inr l) = q l
+      by : (b : Bool) (js : List ℕ) → any (same w x) js ≡ b → ((j : ℕ) → In j js → In j (seen ++ ks)) → ((y : ℕ) → In y ks → Met (firsts w vs seen ks) y)
+          → (In k ks → Met (firsts w vs (seen ++ x ∷ []) ks) k) → (k ≡ x) ⊎ In k ks → Met (cond b (firsts w vs seen ks) (firsts w vs (seen ++ x ∷ []) ks)) k
+      by true js e h p q (inl d) =
+          let s = any-in (same w x) js e in
+          let r = known (append_cases seen (h s.0 s.1)) p in
+          (r.0, r.1, ap w d ∙ same_bytes_lem w x s.0 s.2 ∙ r.2)
+      by true js e h p q (inr l) = p k l
+      by false js e h p q (inl d) = (x, stays (seen ++ x ∷ []) ks (right seen (head refl)), ap w d)
+      by false js e h p q (inr l) = q l
 
   -- so its number is below how many there are
   pub numbered_below : (k : ℕ) (ds : List Definition) → In k (each (definition_uses w vs) ds) → or_zero (place_in w k 0 (channel_names w vs ds)) < length (channel_names w vs ds)

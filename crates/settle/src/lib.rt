@@ -4,6 +4,7 @@
 ghost use Rattle.token.specs.Contents.{lows_in, highs_in};
 ghost use Rattle.std.specs.Prelude.{◌≡◌, List, [], Bool, true, false, ◌||◌, eqb, ℕ, ◌+◌, ◌-◌, ◌*◌, ◌≤◌, ◌<◌, length};
 ghost use Rattle.model.specs.Limits.{definition_limit};
+ghost use Rattle.model.specs.Scope.{scope_width};
 ghost use Rattle.tree.specs.Node.{sum as sumKind};
 ghost use Rattle.tree.specs.Node.{field, kind_of, token_of, number_kind};
 ghost use Rattle.grammar.specs.Syntax.{number};
@@ -231,7 +232,7 @@ fn value_named(parsed: Parsed, scope: Scope, k: usize) -> Option<u64>
 fn mark_sum(roots: &mut [u16], scopes: &mut [u16], node: u64, i: usize, walk: Walk)
     requires { (kind_of node ≡ sumKind → (token_of node < length roots.old) × (token_of node < length scopes.old) × (0 < i)) × (i < field) × (walk.scope.count < 256) × (walk.definitions ≤ definition_limit) }
     ensures roots_after { roots.new ≡ marked_by node roots.old (i - 1) }
-    ensures scopes_after { scopes.new ≡ marked_by node scopes.old (walk.scope.count + walk.definitions * 16) }
+    ensures scopes_after { scopes.new ≡ marked_by node scopes.old (walk.scope.count + walk.definitions * scope_width) }
 {
     if tree::kind_of(node) == NodeKind::SUM {
         let n = tree::token_of(node);

@@ -8,6 +8,7 @@ use lib.ListN.{length, take, drop, replicate}
 use lib.Seq.{sets-eq}
 use borrow.Rule.Slice.PartMut.{put_mid}
 use Rattle.model.specs.Resolved
+use Rattle.model.specs.Opening.{process_limit}
 use Rattle.machine.specs.Offer.{Process}
 use Rattle.machine.specs.State.{process_room, pair_room, state_length, padded, flatten, process_numbers, state_numbers}
 use Rattle.machine.specs.Machine.{start_processes, opened_state}
@@ -22,7 +23,7 @@ module _ (t known : List ℕ) (root variables definitions : ℕ) (m : Resolved.M
   abbrev ps : List Process
   ps = start_processes m m.starts
 
-  few : length ps ≤ 256
+  few : length ps ≤ process_limit
   few = omega (arith, o.few, start-count m m.starts)
 
   pub opens-fit : ItemsFit t known root variables (root - variables - definitions) process_room 0
@@ -37,7 +38,7 @@ module _ (t known : List ℕ) (root variables definitions : ℕ) (m : Resolved.M
   pub opens-count : (f g : List ℤ) (n : ℕ) → Rows f 0 ps g n → n ≡ length ps
   opens-count f g n r = omega (arith, r.next)
 
-  pub opens-few : (f g : List ℤ) (n : ℕ) → Rows f 0 ps g n → n ≤ 256
+  pub opens-few : (f g : List ℤ) (n : ℕ) → Rows f 0 ps g n → n ≤ process_limit
   opens-few f g n r = omega (arith, opens-count f g n r, few)
 
   -- rows over zeros

@@ -1,9 +1,9 @@
 -- What the settled table of nodes holds: the branches of a resolved model (model: Resolved), each part at its root. A part's root is found as in a
 -- syntax tree's table: the last part's is the node before, an earlier part's stands in a field. Assumes nothing: these are definitions.
-use Rattle.std.specs.Prelude.{◌≡◌, List, [], ◌∷◌, ◌++◌, ℕ, suc, ◌+◌, ◌-◌, ◌*◌, ◌/◌, ◌<◌, ℤ, pos, negsuc, nat_abs, ◌-ℤ◌, length, get_or}
+use Rattle.std.specs.Prelude.{◌≡◌, refl, List, [], ◌∷◌, ◌++◌, false, ℕ, suc, ◌+◌, ◌-◌, ◌*◌, ◌/◌, ◌<◌, ℤ, pos, negsuc, nat_abs, ◌-ℤ◌, length, get_or}
 use Rattle.std.proofs.Math.Option.{Option, none, some}
 use Rattle.tree.specs.Node as node
-use Rattle.tree.specs.Node.{kind_of, token_of, left_of, third_of, op_kind, join_kind, test_kind}
+use Rattle.tree.specs.Node.{kind_of, token_of, left_of, third_of, op_kind, join_kind, test_kind, number_kind}
 use Rattle.value.specs.Items.{one_item, two_items, three_items}
 use Rattle.model.specs.Resolved
 
@@ -22,9 +22,17 @@ number_cell kind z = kind + 256 * lifted z
 unfoldable pub number_of : ℕ → ℤ
 number_of c = pos (c / 256) -ℤ pos offset
 
--- a channel name's number
+-- a channel name's number: the kind that the tree's list leaves free
 abbrev pub channel : ℕ
 channel = 66
+
+-- a rate's number, whatever its sign and its decimals: as the tree's whole number without `-`
+abbrev pub scale_number : ℕ
+scale_number = 29
+
+scale-number-is : scale_number ≡ number_kind false false
+unfolding number_kind
+scale-number-is = refl
 
 -- ---- parts by their roots
 module _ (t : List ℕ) where
@@ -82,7 +90,7 @@ module _ (t : List ℕ) where
   Cond (Resolved.either c d) = Pair node.either (Cond c) (Cond d)
 
   unfoldable pub Scale : Resolved.Scale → ℕ → Type 0
-  Scale (Resolved.fixed z) = Number 29 z
+  Scale (Resolved.fixed z) = Number scale_number z
   Scale (Resolved.scale_local i) = Index node.scale_name i
 
   unfoldable pub Rate : Resolved.Rate → ℕ → Type 0

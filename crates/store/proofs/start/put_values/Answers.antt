@@ -1,4 +1,4 @@
--- `engine::start::put_values` meets its contract: an item without values has none to write.
+-- `store::start::put_values` meets its contract: an item without values has none to write.
 use mathlib.Core.Path.{ap, sym, ◌∙◌}
 use native.Mathlib.Omega.{arith}
 use Rattle.tree.specs.Node.{kind_of}

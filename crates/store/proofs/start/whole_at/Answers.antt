@@ -1,4 +1,4 @@
--- `engine::start::whole_at` meets its contract: a whole number evaluates to itself.
+-- `store::start::whole_at` meets its contract: a whole number evaluates to itself.
 use mathlib.Core.Path.{ap, ◌∙◌}
 use lib.IntN.{ℤ, pos}
 use Rattle.std.specs.Prelude.{Option}

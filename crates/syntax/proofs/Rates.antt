@@ -43,7 +43,7 @@ Rate ts t t' at = Answers a_rate flat_rate (λ s x. Table.Rate s (rate_at x at))
 
 module _ (base : ℕ) (ts t : List ℕ) (at used : ℕ) where
   pub unsigned-whole : {t' : List ℕ} → get_or ts at 0 ≡ kind.whole → Wrote t t' used base at 0 0 → UnsignedRead base ts t t' at used (Ok (at + 1, used))
-  unfolding place Parsed table rows_of find flat_unsigned HoldsUnsigned
+  unfolding place Parsed table rows_of find flat_unsigned HoldsUnsigned number_kind
   unsigned-whole e w =
       let none : base + 0 ≡ base = omega arith in (
         takes ts at Unsigned kind.whole e (omega arith) refl (λ l. here ts (at + 1) l),
@@ -51,7 +51,7 @@ module _ (base : ℕ) (ts t : List ℕ) (at used : ℕ) where
       )
 
   pub unsigned-decimal : {t' : List ℕ} → get_or ts at 0 ≡ kind.decimal → Wrote t t' used (base + 2) at 0 0 → UnsignedRead base ts t t' at used (Ok (at + 1, used))
-  unfolding place Parsed table rows_of find flat_unsigned HoldsUnsigned
+  unfolding place Parsed table rows_of find flat_unsigned HoldsUnsigned number_kind
   unsigned-decimal e w = (
     takes ts at Unsigned kind.decimal e (omega arith) refl (λ l. here ts (at + 1) l),
     record { tree = true; span = span-wrote w (span-token kind.decimal e (omega arith)) (omega arith); shown = seen-leaf w },

@@ -14,6 +14,7 @@ use token::Kind;
 use tree::{NodeKind, Read};
 
 // A number without `-`; `base` is its node's kind if it is whole.
+#[tactic(auto, unfolding(tree::specs::Node::number_kind))]
 pub fn unsigned(spot: Spot, nodes: &mut [u64], base: u8) -> Read
     requires base_le_negative_number { base ≤ negative_number }
     ensures follows { Follows spot.entry.toks.now spot.entry.at (Unsigned ∷ []) (place result) }
@@ -33,6 +34,7 @@ pub fn unsigned(spot: Spot, nodes: &mut [u64], base: u8) -> Read
 }
 
 // A number, perhaps with `-` before it.
+#[tactic(auto, unfolding(tree::specs::Node::number_kind))]
 pub fn number(spot: Spot, nodes: &mut [u64]) -> Read
     ensures follows { Follows spot.entry.toks.now spot.entry.at (Number' ∷ []) (place result) }
     ensures parsed { Parsed flat_number (λ t n. Table.Number t (number_at n spot.entry.at)) spot.entry.toks.now nodes.old nodes.new spot.entry.at spot.entry.used result }

@@ -12,6 +12,6 @@ negative_number = number_kind true false
 unfoldable pub flat_unsigned : Bool → List ℕ → List ℕ
 flat_unsigned decimal ts = cond decimal kind.decimal kind.whole ∷ ts
 
--- its node, which is of this kind if the number is whole, and as much more if it is a decimal as without `-`
+-- its node, which is of this kind if the number is whole; a decimal's kind is as far above it as without `-`
 unfoldable pub HoldsUnsigned : ℕ → ℕ → List ℕ → Bool → ℕ → ℕ → Type 0
 HoldsUnsigned whole k t decimal = Table.Leaf t (whole + (number_kind false decimal - number_kind false false)) k

@@ -26,7 +26,7 @@ use Rattle.machine.specs.Machine.{branch_arguments, on_guard, entry_arguments, e
 use Rattle.machine.specs.Questions.{BranchAt}
 use Rattle.machine.proofs.Branches.{nth-map, nth-get, guard-is, writes}
 use Rattle.machine.proofs.Everys.{every-nth, every_append}
-use Rattle.machine.proofs.Parts.{comes}
+use Rattle.machine.proofs.Offering.{comes}
 use Rattle.machine.proofs.Ranges.{GoodOffer, action-good}
 use Rattle.machine.proofs.Bound.{names-bound, label-action, BoundGood, alone-bound, accepted-bound}
 use Rattle.machine.proofs.Continues.{at-good}

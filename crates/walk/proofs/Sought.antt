@@ -23,7 +23,7 @@ use Rattle.machine.specs.Offer.{Process, branches}
 use Rattle.machine.specs.State.{State}
 use Rattle.machine.specs.Machine.{is_wait, is_sought}
 use Rattle.machine.proofs.Branches.{nth-get, writes}
-use Rattle.machine.proofs.Parts.{comes}
+use Rattle.machine.proofs.Offering.{comes}
 use Rattle.machine.proofs.Bound.{label-action}
 use Rattle.step.specs.Enter.{Lent, Acts, Acting}
 use Rattle.walk.specs.Held.{Seen}

@@ -21,6 +21,7 @@ def main():
     import rtlib
 
     os.chdir(f"{ROOT}/crates/engine_c")
+    os.makedirs("out", exist_ok=True)
     crate = rtlib.Crate(os.getcwd(), ROOT, {})
     lacking = [it.name for it in crate.below() if not os.path.isdir(it.rlib)]
     if lacking:

@@ -14,6 +14,7 @@ static uint8_t text[16385]; /* one byte more than a text may have: a longer file
 static uint8_t model[MATGRAVEL_MODEL];
 static int64_t state[MATGRAVEL_STATE];
 static int64_t saves[MATGRAVEL_SAVES];
+static int64_t search[MATGRAVEL_SEARCH];
 static uint64_t listing[MATGRAVEL_LISTING];
 static uint16_t waiting[256]; /* a step uses about 4.3 of them; that 256 are too few does not happen with an even generator */
 static matgravel_clock now;
@@ -94,7 +95,8 @@ int main(int words, char **word) {
     }
     if (!read_text(word[1], &size) || !read_number(word[2], &seed) || !read_number(word[3], &steps)) return 2;
 
-    matgravel_answer a = matgravel_open(text, size, model, MATGRAVEL_MODEL, state, MATGRAVEL_STATE, saves, MATGRAVEL_SAVES, &now);
+    matgravel_answer a = matgravel_open(text, size, model, MATGRAVEL_MODEL, state, MATGRAVEL_STATE, saves, MATGRAVEL_SAVES,
+                                        search, MATGRAVEL_SEARCH, &now);
     if (a.number != 0) return refused(word[1], a);
     printf("open %zu\n", size);
     fwrite(text, 1, size, stdout);

@@ -1,7 +1,7 @@
 /* Matgravel: an engine for the Beacon Calculus.
  *
- * One engine is a model buffer, a state buffer, a buffer for saves and a clock. A fresh engine has zeros in all. No call keeps anything elsewhere:
- * engines are independent of one another, and a copy of the buffers is a copy of the engine.
+ * One engine is a model buffer, a state buffer, a buffer for saves, one for a search under way and a clock. A fresh engine has zeros in all.
+ * No call keeps anything elsewhere: engines are independent of one another, and a copy of the buffers is a copy of the engine.
  *
  * Every call may be given any bytes, numbers and lengths: it answers, or refuses with a number, and never reads or writes beyond the
  * lengths given. Each pointer is to as many elements as its length says, is not null, and the buffers of a call do not overlap.
@@ -22,6 +22,7 @@ extern "C" {
 #define MATGRAVEL_LISTING 7168
 #define MATGRAVEL_REPORT 64
 #define MATGRAVEL_SAVES 41008
+#define MATGRAVEL_SEARCH 5135
 
 /* The listing's entries: how many there may be, and the numbers of one (kind, place, branch, partner, partner branch, pair, weight). */
 #define MATGRAVEL_ENTRIES 1024
@@ -47,6 +48,12 @@ typedef struct {
     uint64_t number, length, run[8];
 } matgravel_found;
 
+/* number: 0, or that of the refusal. count: the states walked since the search began; 0 with 1, 11 and 28. ended: 1 where the search ended in this
+ * call, else 0. length, run: the run that it found, as of a search in one call; 0 before the end, where there is none, and with a refusal. */
+typedef struct {
+    uint64_t number, count, ended, length, run[8];
+} matgravel_progress;
+
 /* Model time in ten-thousandths of a unit (ticks), and the waiting draws used so far. Each is at most 9,223,372,036,854,775,807. */
 typedef struct {
     uint64_t ticks, draws;
@@ -61,17 +68,17 @@ typedef struct {
 /* The numbers of an event of a run: the ticks of the clock after a step, and the MATGRAVEL_ENTRY numbers of the entry that it took. */
 #define MATGRAVEL_EVENT 8
 
-/* Reads a model text, sets the engine to its start, forgets every save and sets the clock to zero.
+/* Reads a model text, sets the engine to its start, forgets every save, ends a search under way and sets the clock to zero.
  * Refusals: 1 a buffer has a wrong length: nothing is changed.
  *   2 more than 16,384 bytes, 3 a byte that no text has, 4 brackets too deep, 5 not a text of the grammar, 6 more than 4,096 tokens,
- *   7 beyond a limit, 8 a name is not new, 9 a name is not given, 10 more than 256 processes: model, state, saves and clock are zeroed. */
-matgravel_answer matgravel_open(const uint8_t *text, size_t text_len, uint8_t *model, size_t model_len, int64_t *state, size_t state_len, int64_t *saves, size_t saves_len, matgravel_clock *clock);
+ *   7 beyond a limit, 8 a name is not new, 9 a name is not given, 10 more than 256 processes: model, state, saves, search and clock are zeroed. */
+matgravel_answer matgravel_open(const uint8_t *text, size_t text_len, uint8_t *model, size_t model_len, int64_t *state, size_t state_len, int64_t *saves, size_t saves_len, int64_t *search, size_t search_len, matgravel_clock *clock);
 
 /* The same under the steady profile: a text in which every continuation leaves at most one process. From an accepted one on and up to
  * the next opening, no call is refused with 18, no step raises the number of processes, and there are never more than at the start.
  * Refusals: those of open, and 29 a group has more than one item, or a call is of a definition with more than one sum; its place is the
- *   first such `(` or call name. 29 zeroes model, state, saves and clock too. */
-matgravel_answer matgravel_open_steady(const uint8_t *text, size_t text_len, uint8_t *model, size_t model_len, int64_t *state, size_t state_len, int64_t *saves, size_t saves_len, matgravel_clock *clock);
+ *   first such `(` or call name. 29 zeroes model, state, saves, search and clock too. */
+matgravel_answer matgravel_open_steady(const uint8_t *text, size_t text_len, uint8_t *model, size_t model_len, int64_t *state, size_t state_len, int64_t *saves, size_t saves_len, int64_t *search, size_t search_len, matgravel_clock *clock);
 
 /* Lists every transition that can happen next, with its weight. Changes neither model nor state.
  * Refusals: 1 a buffer has a wrong length, 11 the buffers hold no open model with a state of it: the listing is left as it was.
@@ -110,6 +117,20 @@ matgravel_answer matgravel_report(const uint8_t *model, size_t model_len, const 
  * Refusals: 1 and 11 as for list, 26 a depth that is not 1 to 8, 27 there is no such run, but within the depth a listing was refused
  *   with 12 to 14 or an entry with 17 to 19. The time grows with the number of runs: the product of the entry counts along them. */
 matgravel_found matgravel_search(const uint8_t *model, size_t model_len, const int64_t *state, size_t state_len, const uint8_t *name, size_t name_len, uint64_t depth);
+
+/* Begins such a search at the present state, to be carried on by matgravel_carry_on, and walks nothing. It replaces one that is under way.
+ * Changes the search alone.
+ * Refusals: 1 a buffer has a wrong length, 11 the buffers hold no open model with a state and a search of it, 26 a depth that is not 1 to 8.
+ *   Refused, it changes nothing: a search under way stays. */
+matgravel_answer matgravel_begin(const uint8_t *model, size_t model_len, const int64_t *state, size_t state_len, int64_t *search, size_t search_len, const uint8_t *name, size_t name_len, uint64_t depth);
+
+/* Walks exactly `number` states of the search under way, unless it ends before: the ends of the runs from the state at which it began, first the
+ * empty run, then by length and by entry numbers. The search ends with the first run to the wait, else with the last up to its depth. Then the
+ * answer is that of a search of the same name and depth in one call at that state, whatever calls but openings were made since; and the search is
+ * no longer under way, its numbers are zeros. Changes the search alone.
+ * Refusals: 1 and 11 as for begin, 28 no search is under way, or count and number together are above 9,000,000,000,000,000,000: nothing is
+ *   changed. 27 as for search, at the end of the walk: count is set, ended is 1, and the search is no longer under way. */
+matgravel_progress matgravel_carry_on(const uint8_t *model, size_t model_len, const int64_t *state, size_t state_len, int64_t *search, size_t search_len, uint64_t number);
 
 /* Keeps the state and the clock under a name, which replaces what was kept under it before; there is room for eight names. Changes the saves alone.
  * Refusals: 1 a buffer has a wrong length, 11 the buffers hold no open model with a state and saves of it, or the clock is beyond its limit, 20 the name is not 1 to 16

@@ -1,6 +1,6 @@
 //! One engine: its buffers, and the calls on them. The lengths and layouts are those of docs/LAYOUT.md.
 
-use crate::linked::{self, Clock};
+use crate::linked::{self, Clock, Opened};
 pub use crate::linked::{Answer, Found, Ran};
 
 const MODEL: usize = 16_386;
@@ -8,6 +8,7 @@ const STATE: usize = 5_122;
 const LISTING: usize = 7_168;
 const REPORT: usize = 64;
 const SAVES: usize = 41_008;
+const SEARCH: usize = 5_135;
 const ENTRY: usize = 7;
 const EVENT: usize = 1 + ENTRY;
 const PROCESS: usize = 10;
@@ -86,8 +87,9 @@ impl Engine {
         let mut engine =
             Engine { model: vec![0; MODEL], state: State { numbers: vec![0; STATE] }, clock: Clock::default() };
         let call = if steady { linked::open_steady } else { linked::open };
-        let mut saves = vec![0; SAVES];
-        let answer = call(text, &mut engine.model, &mut engine.state.numbers, &mut saves, &mut engine.clock);
+        let (state, clock) = (&mut engine.state.numbers[..], &mut engine.clock);
+        let opened = Opened { state, saves: &mut vec![0; SAVES], search: &mut vec![0; SEARCH], clock };
+        let answer = call(text, &mut engine.model, opened);
         accepted(answer).map(|_| engine)
     }
 

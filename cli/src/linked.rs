@@ -41,13 +41,21 @@ pub struct Ran {
     pub total: u64,
 }
 
-type Opening =
-    unsafe extern "C" fn(*const u8, usize, *mut u8, usize, *mut i64, usize, *mut i64, usize, *mut Clock) -> Answer;
+/// What an opening fills besides the model: state, saves and search under way, and the clock.
+pub struct Opened<'a> {
+    pub state: &'a mut [i64],
+    pub saves: &'a mut [i64],
+    pub search: &'a mut [i64],
+    pub clock: &'a mut Clock,
+}
+
+#[rustfmt::skip]
+type Opening = unsafe extern "C" fn(*const u8, usize, *mut u8, usize, *mut i64, usize, *mut i64, usize, *mut i64, usize, *mut Clock) -> Answer;
 
 #[rustfmt::skip]
 extern "C" {
-    fn matgravel_open(text: *const u8, text_len: usize, model: *mut u8, model_len: usize, state: *mut i64, state_len: usize, saves: *mut i64, saves_len: usize, clock: *mut Clock) -> Answer;
-    fn matgravel_open_steady(text: *const u8, text_len: usize, model: *mut u8, model_len: usize, state: *mut i64, state_len: usize, saves: *mut i64, saves_len: usize, clock: *mut Clock) -> Answer;
+    fn matgravel_open(text: *const u8, text_len: usize, model: *mut u8, model_len: usize, state: *mut i64, state_len: usize, saves: *mut i64, saves_len: usize, search: *mut i64, search_len: usize, clock: *mut Clock) -> Answer;
+    fn matgravel_open_steady(text: *const u8, text_len: usize, model: *mut u8, model_len: usize, state: *mut i64, state_len: usize, saves: *mut i64, saves_len: usize, search: *mut i64, search_len: usize, clock: *mut Clock) -> Answer;
     fn matgravel_list(model: *const u8, model_len: usize, state: *const i64, state_len: usize, listing: *mut u64, listing_len: usize) -> Answer;
     fn matgravel_step(model: *const u8, model_len: usize, state: *mut i64, state_len: usize, listing: *mut u64, listing_len: usize, draw: u64) -> Answer;
     fn matgravel_run(model: *const u8, model_len: usize, state: *mut i64, state_len: usize, words: *const u64, words_len: usize, waiting: *const u16, waiting_len: usize, events: *mut u64, events_len: usize, limit: u64, clock: *mut Clock) -> Ran;
@@ -55,26 +63,22 @@ extern "C" {
     fn matgravel_search(model: *const u8, model_len: usize, state: *const i64, state_len: usize, name: *const u8, name_len: usize, depth: u64) -> Found;
 }
 
-pub fn open(text: &[u8], model: &mut [u8], state: &mut [i64], saves: &mut [i64], clock: &mut Clock) -> Answer {
-    opening(matgravel_open, text, model, state, saves, clock)
+pub fn open(text: &[u8], model: &mut [u8], opened: Opened) -> Answer {
+    opening(matgravel_open, text, model, opened)
 }
 
-pub fn open_steady(text: &[u8], model: &mut [u8], state: &mut [i64], saves: &mut [i64], clock: &mut Clock) -> Answer {
-    opening(matgravel_open_steady, text, model, state, saves, clock)
+pub fn open_steady(text: &[u8], model: &mut [u8], opened: Opened) -> Answer {
+    opening(matgravel_open_steady, text, model, opened)
 }
 
-fn opening(
-    call: Opening,
-    text: &[u8],
-    model: &mut [u8],
-    state: &mut [i64],
-    saves: &mut [i64],
-    clock: &mut Clock,
-) -> Answer {
-    let (text_len, model_len, state_len, saves_len) = (text.len(), model.len(), state.len(), saves.len());
-    let (model, state, saves) = (model.as_mut_ptr(), state.as_mut_ptr(), saves.as_mut_ptr());
+fn opening(call: Opening, text: &[u8], model: &mut [u8], opened: Opened) -> Answer {
+    let Opened { state, saves, search, clock } = opened;
+    let (text_len, model_len, state_len) = (text.len(), model.len(), state.len());
+    let (saves_len, search_len) = (saves.len(), search.len());
+    let (text, model, state) = (text.as_ptr(), model.as_mut_ptr(), state.as_mut_ptr());
+    let (saves, search) = (saves.as_mut_ptr(), search.as_mut_ptr());
     // The call keeps no pointer, and reads and writes within the lengths given.
-    unsafe { call(text.as_ptr(), text_len, model, model_len, state, state_len, saves, saves_len, clock) }
+    unsafe { call(text, text_len, model, model_len, state, state_len, saves, saves_len, search, search_len, clock) }
 }
 
 pub fn list(model: &[u8], state: &[i64], listing: &mut [u64]) -> Answer {

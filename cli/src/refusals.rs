@@ -27,10 +27,10 @@ fn rows() -> impl Iterator<Item = (u64, Refusal)> {
 mod tests {
     use super::*;
 
-    /// The numbers that a call of the command can be refused with.
+    /// The numbers of all refusals.
     #[test]
     fn every_number_has_a_row() {
-        for number in (1..=27).chain([29]) {
+        for number in 1..=29 {
             assert_eq!(rows().filter(|(row, _)| *row == number).count(), 1, "{number}");
             let Refusal { wrong, mend } = refusal(number);
             assert!(!wrong.is_empty() && !mend.is_empty(), "{number}");

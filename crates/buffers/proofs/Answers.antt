@@ -10,7 +10,7 @@ use lib.ListN.{length}
 use Rattle.model.specs.Resolved
 use Rattle.rules.specs.Listing.{Entry}
 use Rattle.machine.specs.State.{State, state_length, state_numbers}
-use Rattle.machine.specs.Machine.{model_length, listing_length, Shown, as_lent, filled, Answer, no, listed_as, reported_as, found_as, moves_to, is_depth, searched_as, searches, Listed, entries_are, refused_with, turn, drawn, showing, lists, sharing, reports, choosing, steps_with, held, Machine, holding, on_state, list', step', report', search', on', acts, Part, model, state, saves, clock, size, two_parts, is_lent, all_parts, has_lengths, on_machine}
+use Rattle.machine.specs.Machine.{model_length, listing_length, Shown, as_lent, filled, Answer, no, listed_as, reported_as, found_as, moves_to, is_depth, searched_as, searches, Listed, entries_are, refused_with, turn, drawn, showing, lists, sharing, reports, choosing, steps_with, held, Machine, holding, on_state, list', step', report', search', on', acts, Part, model, state, saves, clock, search, size, two_parts, is_lent, all_parts, has_lengths, on_machine}
 use Rattle.machine.specs.Machine as machine
 use Rattle.machine.specs.Report.{report_length, report_of}
 use Rattle.machine.specs.Questions.{Lists}
@@ -61,6 +61,7 @@ module _ (x : Engine) (l : List ℕ) (long : length (x model) ≡ model_length) 
       at state = refl
       at saves = refl
       at clock = refl
+      at search = refl
 
   still : with_state x (state_numbers s) ≡ x
   unfolding with_state
@@ -71,6 +72,7 @@ module _ (x : Engine) (l : List ℕ) (long : length (x model) ≡ model_length) 
       at state = same
       at saves = refl
       at clock = refl
+      at search = refl
 
   leaving : State → Answer → Effect
   leaving r a = leaves two_parts x l (turn (holding (held m r)) a)

@@ -19,7 +19,7 @@ use Rattle.machine.specs.State.{State, state_length, state_numbers, GoodState}
 use Rattle.machine.specs.Timed.{Timed, timed}
 use Rattle.machine.specs.Saves.{no_saves}
 use Rattle.machine.specs.Machine as machine
-use Rattle.machine.specs.Machine.{model_length, listing_length, Shown, filled, Answer, listed_as, Listed, entries_are, refused_with, Turn, turn, drawn, choosing, steps_with, steps_in, times_with, runs_with, ran_as, ran, runs_over, event_width, Held, held_all, Machine, closed, holding, on_clock, timed', run', on', acts, Part, model, state, saves, clock, size, two_parts, timed_parts, is_lent, all_parts, has_lengths, on_machine}
+use Rattle.machine.specs.Machine.{model_length, listing_length, Shown, filled, Answer, listed_as, Listed, entries_are, refused_with, Turn, turn, drawn, choosing, steps_with, steps_in, times_with, runs_with, ran_as, ran, runs_over, event_width, Held, held_all, Machine, closed, holding, on_clock, timed', run', on', acts, Part, model, state, saves, clock, search, size, two_parts, timed_parts, is_lent, all_parts, has_lengths, on_machine}
 use Rattle.machine.specs.Questions.{Lists, Times, no15-19, no23, no24, no25, yes25}
 use Rattle.machine.proofs.Listing.{asked, accepted}
 use Rattle.machine.proofs.Timing as timing
@@ -162,6 +162,7 @@ module _ (x : Engine) (l : List ℕ) (long : length (x model) ≡ model_length) 
       at state = refl
       at saves = refl
       at clock = refl
+      at search = refl
 
   still : with_timed x (state_numbers s) c ≡ x
   unfolding with_timed
@@ -175,6 +176,7 @@ module _ (x : Engine) (l : List ℕ) (long : length (x model) ≡ model_length) 
       at state = (machine-over x m s numbers o.two).numbers
       at saves = refl
       at clock = sym o.numbers
+      at search = refl
 
   leaving : Turn Timed → Effect
   leaving t = leaves timed_parts x l (turn (holding (held_at m t.machine.state t.machine.clock)) t.answer)

@@ -16,7 +16,7 @@ use Rattle.model.specs.Good.{GoodModel}
 use Rattle.model.proofs.Held.{opened-held}
 use Rattle.model.proofs.Opened as formed
 use Rattle.machine.specs.State.{state_length, state_numbers}
-use Rattle.machine.specs.Machine.{model_length, Shown, as_lent, Answer, no, Turn, turn, Held, Good, Machine, closed, holding, Request, Ask, open', open_steady', on', acts, Part, model, state, saves, clock, size, lent_to, uses, is_lent, has_lengths, opens, on_machine, asked_of_machine, calls, answers, after}
+use Rattle.machine.specs.Machine.{model_length, Shown, as_lent, Answer, no, Turn, turn, Held, Good, Machine, closed, holding, Request, Ask, open', open_steady', on', acts, Part, model, state, saves, clock, size, lent_to, uses, is_lent, has_lengths, opens, on_machine, asked_of_machine, calls, answers, after, search, search_length, asked_of_machine}
 use Rattle.machine.specs.Saves.{saves_length}
 use Rattle.machine.proofs.Numbers.{state-length}
 use Rattle.machine.proofs.Keeps.{opened-good, acts-good, same-model}
@@ -28,6 +28,8 @@ use Rattle.state.proofs.Image.{numbers-pass, decode-back}
 use Rattle.saves.specs.Places.{saves_numbers, saves_in}
 use Rattle.saves.proofs.Over.{saves-fit}
 use Rattle.saves.proofs.Places.{saves-length, saves-pass, saves-back}
+use Rattle.underway.specs.Buffer.{search_numbers, search_in}
+use Rattle.underway.proofs.Buffer.{search-length, search-pass, search-back}
 use Rattle.buffers.specs.Held.{model_bytes, held_in}
 use Rattle.buffers.specs.Listing.{shown}
 use Rattle.buffers.specs.Parts.{Cell, Engine, clock_numbers, clock_in, fresh, numbers_of, is_part, read_held}
@@ -50,6 +52,7 @@ module _ (text : List ℕ) (h : Held) (m : held_in (model_bytes text) ≡ some h
   held-long state = state-length h.model good h.state g.state
   held-long saves = saves-length (scopes_of h.model) (few-scopes h.model good) h.model.channels h.saves (saves-fit h.model good h.saves g.saves)
   held-long clock = refl
+  held-long search = search-length h.model good h.search g.search
 
   part-passes : (p : Part) → is_part h.model p (numbers_of (model_bytes text) h p) ≡ true
   unfolding numbers_of is_part
@@ -57,6 +60,7 @@ module _ (text : List ℕ) (h : Held) (m : held_in (model_bytes text) ≡ some h
   part-passes state = numbers-pass (scopes_of h.model) (few-scopes h.model good) h.model.channels h.state (good-fits h.model h.state good g.state)
   part-passes saves = saves-pass (scopes_of h.model) (few-scopes h.model good) h.model.channels h.saves (saves-fit h.model good h.saves g.saves)
   part-passes clock = sym (both-in h.clock g.clock.ticks g.clock.draws)
+  part-passes search = search-pass h.model good h.search g.search
 
   -- what is read back of the parts that are lent
   read_back : (ps : List Part) (x : Engine) → ((p : Part) → is_lent p ps ≡ true → x p ≡ numbers_of (model_bytes text) h p) → Agree ps (read_held h.model ps x) h
@@ -71,6 +75,7 @@ module _ (text : List ℕ) (h : Held) (m : held_in (model_bytes text) ≡ some h
       (ap (saves_in (scopes_of h.model)) (e saves l)
       ∙ saves-back (scopes_of h.model) (few-scopes h.model good) h.model.channels h.saves (saves-fit h.model good h.saves g.saves))
   read_back ps x e clock l = rw l (ap clock_in (e clock l))
+  read_back ps x e search l = rw l (ap (search_in h.model) (e search l) ∙ search-back h.model good h.search g.search)
 
 fresh-long : (p : Part) → length (fresh p) ≡ size p
 unfolding fresh
@@ -78,6 +83,7 @@ fresh-long model = length-replicate {A = ℕ} model_length 0
 fresh-long state = length-replicate state_length (pos 0)
 fresh-long saves = length-replicate saves_length (pos 0)
 fresh-long clock = refl
+fresh-long search = length-replicate search_length (pos 0)
 
 numbers-agree : (bytes bytes' : List ℕ) (h k : Held) → bytes ≡ bytes' → (p : Part) → content p h ≡ content p k → numbers_of bytes h p ≡ numbers_of bytes' k p
 unfolding numbers_of content
@@ -85,6 +91,7 @@ numbers-agree bytes bytes' h k b model e = b
 numbers-agree bytes bytes' h k b state e = ap state_numbers e
 numbers-agree bytes bytes' h k b saves e = ap saves_numbers e
 numbers-agree bytes bytes' h k b clock e = ap clock_numbers e
+numbers-agree bytes bytes' h k b search e = ap search_numbers e
 
 pub all-lent : (text : List ℕ) (p : Part) → is_lent p (lent_to (open' text)) ≡ true
 unfolding is_lent
@@ -92,6 +99,7 @@ all-lent text model = refl
 all-lent text state = refl
 all-lent text saves = refl
 all-lent text clock = refl
+all-lent text search = refl
 
 -- ---- engines
 

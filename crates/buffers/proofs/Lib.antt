@@ -14,7 +14,10 @@ pub mod Texts
 pub mod Transitions
 pub mod Waiting
 pub mod Found
+pub mod Told
 pub mod Answers
+pub mod Pieces
+pub mod Under
 pub mod Outcomes
 pub mod Runs
 pub mod Independent

@@ -2,8 +2,8 @@
 use mathlib.Core.Path.{◌≡◌, refl, sym, ap, ap₂, subst, ◌∙◌}
 use mathlib.Core.Bool.{Bool, true, false}
 use mathlib.Core.List.{List, map}
-use mathlib.Core.Logic.{inl, inr, ⊎_elim}
-use mathlib.Core.Option.{some}
+use mathlib.Core.Logic.{◌⊎◌, inl, inr, ⊎_elim}
+use mathlib.Core.Option.{Option, some}
 use Prim.Native.Nat.{ℕ, ◌≤◌}
 use native.Mathlib.Omega.{arith}
 use lib.ListN.{length, replicate}
@@ -23,7 +23,7 @@ use Rattle.machine.proofs.Saves.{StoredAnswers, accepts, refuses, saving-answers
 use Rattle.saves.specs.Places.{saves_numbers}
 use Rattle.machine.specs.Report.{report_length}
 use Rattle.machine.specs.Machine.{listing_length, Answer, no, listed_as, reported_as, Listed, Turn, turn, drawn, showing, lists, sharing, reports, choosing, steps_with, searches, steps_in, times_with, runs_with, ran_as, runs_over, event_width, Held, moved, moved_in, Machine, closed, holding, on_state, on_clock}
-use Rattle.machine.specs.Machine.{timed_of, stored_in, on_saves, Request, list', step', report', search', timed', run', save', return', forget', Ask, open', open_steady', on', acts, Part, model, state, saves, clock, size, output_of, has_lengths, on_machine, after}
+use Rattle.machine.specs.Machine.{depth_limit, GoodSearching, Search, begins, carries_by, searched_in, timed_of, stored_in, on_saves, on_search, Request, list', step', report', search', timed', run', save', return', forget', begin', carry', Ask, open', open_steady', on', acts, Part, model, state, saves, clock, search, size, output_of, has_lengths, on_machine, after}
 use Rattle.machine.specs.Machine as machine
 use Rattle.machine.specs.Questions.{IsListing, Lists, no12, no13, no14, yes14, Steps, no15, no16, no17, no18, no19, yes19, Times, no15-19, no23, no24, no25, yes25}
 use Rattle.machine.proofs.Listing.{asked}
@@ -35,11 +35,14 @@ use Rattle.machine.proofs.Searching as searching
 use Rattle.rules.proofs.Decides.{on}
 use Rattle.buffers.specs.Held.{model_bytes}
 use Rattle.buffers.specs.Listing.{shown}
-use Rattle.buffers.specs.Parts.{Cell, Engine, fresh, numbers_of, with_timed, with_kept}
+use Rattle.buffers.specs.Parts.{Cell, Engine, fresh, numbers_of, with_timed, with_kept, clock_numbers, with_search}
 use Rattle.buffers.specs.Effect.{Effect, untouched, opens_with, left_in, leaves}
 use Rattle.buffers.specs.Answers.{runs_as}
 use Rattle.buffers.specs.Calls.{Lending, BufferCall, effect_of, left_by, lent_lengths, fed, engine_after, Holds, zeros, held}
-use Rattle.buffers.specs.Outcomes.{Outcome, nothing, zeroed, opens, unlisted, listed, unwaited, accepted, reported, searched, unstored, stored, ran, opens_steady, unsteady}
+use Rattle.buffers.specs.Outcomes.{Outcome, nothing, zeroed, opens, unlisted, listed, unwaited, accepted, reported, searched, unstored, stored, ran, Walks, unwalked, walked, opens_steady, unsteady}
+use Rattle.underway.specs.Buffer.{search_numbers}
+use Rattle.machine.proofs.Carrying.{begins-few, carries-few}
+use Rattle.buffers.proofs.Pieces.{Walked, goes, stays, begins-walked, carries-walked}
 use Rattle.buffers.proofs.Lent.{same-engine}
 use Rattle.buffers.proofs.Every.{IsOpening, plainly, steadily, one-untouched, left_as, asks-all, make, Turns, shut, request-turns, every-list}
 use Rattle.buffers.proofs.Transitions.{still}
@@ -192,6 +195,7 @@ module _ (x : Engine) (a : (p : Part) → Lending (Cell p) (size p)) (l : List �
         left_so state = unfold with_kept numbers_of in u.left state
         left_so saves = unfold with_kept numbers_of in u.left saves
         left_so clock = unfold with_kept numbers_of in u.left clock
+        left_so search = unfold with_kept numbers_of in u.left search ∙ ap (λ (t : Turn Held). search_numbers t.machine.search) (q h) ∙ sym (u.before search)
     saves-out r f k q u (refuses b c z) =
         let n : (effect_of x (make (on' r) a l)).answer.number ≡ (f (timed_of h) h.saves).number = ap (λ (a : Answer). a.number) u.answer ∙ ap (λ (t : Turn Held). t.answer.number) (q h) in
         unstored (omega arith) (omega arith) (still u (ap (λ (t : Turn Held). t.machine) (q h) ∙ ap₂ (λ (t : Timed) (ss : Saves). stored_in h (record { number = 0; kept = t; saves = ss })) z.0 z.1))
@@ -229,18 +233,39 @@ module _ (x : Engine) (a : (p : Part) → Lending (Cell p) (size p)) (l : List �
         left_so state = unfold with_timed numbers_of in u.left state
         left_so saves = unfold with_timed numbers_of in u.left saves ∙ sym (u.before saves)
         left_so clock = unfold with_timed numbers_of in u.left clock
+        left_so search = unfold with_timed numbers_of in u.left search ∙ sym (u.before search)
 
-    request-out : (r : Request) → Turns x h r a l → ((n : ℕ) → output_of (on' r) ≡ some n → length l ≡ n) → Out y (on' r)
-    unfolding acts Names
-    request-out list' u long = list-out u (long listing_length refl)
-    request-out (step' d) u long = step-out u (long listing_length refl)
-    request-out report' u long = report-out u (long report_length refl)
-    request-out (search' n d) u long = search-out n d u
-    request-out (save' n) u long = saves-out (save' n) (saving n) tt (λ k. refl) u (saving-answers n (timed_of h) h.saves)
-    request-out (return' n) u long = saves-out (return' n) (returning n) tt (λ k. refl) u (returning-answers n (timed_of h) h.saves)
-    request-out (forget' n) u long = saves-out (forget' n) (forgetting n) tt (λ k. refl) u (forgetting-answers n (timed_of h) h.saves)
-    request-out (timed' ds d) u long = timed-out u (long listing_length refl)
-    request-out (run' ws vs n k) u long = run_out ws vs n k u
+    -- 02, note 10: of a search that is begun or carried on
+    walks-out : (r : Request) (f : Resolved.Model → State → Option Search → Turn (Option Search)) → Walks r → ((k : Held) → acts r k ≡ on_search f k) → Turns x h r a l → length (f m s h.search).answer.run ≤ depth_limit → Walked h.search (f m s h.search) → Out y (on' r)
+    unfolding on_search shown
+    walks-out r f k q u few (goes z w) =
+        walked e refl k (subst (λ (b : Answer). (b.number ≡ 0) ⊎ (b.number ≡ 27)) (sym (u.answer ∙ ap (λ (t : Turn Held). t.answer) (q h))) z)
+        (subst (λ (b : Answer). length b.run ≤ depth_limit) (sym (u.answer ∙ ap (λ (t : Turn Held). t.answer) (q h))) few) u.answer (same-engine left_so)
+        (u.output ∙ ap (λ (t : Turn Held). shown t.answer.listing l) (q h) ∙ ap (λ (j : machine.Shown). shown j l) w)
+      where
+        left_so : (p : Part) → left_by x (make (on' r) a l) p ≡ with_search x (search_numbers (acts r h).machine.search) p
+        left_so model = unfold with_search numbers_of in u.left model ∙ sym (u.before model)
+        left_so state = unfold with_search numbers_of in u.left state ∙ ap (λ (t : Turn Held). state_numbers t.machine.state) (q h) ∙ sym (u.before state)
+        left_so saves = unfold with_search numbers_of in u.left saves ∙ ap (λ (t : Turn Held). saves_numbers t.machine.saves) (q h) ∙ sym (u.before saves)
+        left_so clock = unfold with_search numbers_of in u.left clock ∙ ap (λ (t : Turn Held). clock_numbers t.machine.clock) (q h) ∙ sym (u.before clock)
+        left_so search = unfold with_search numbers_of in u.left search
+    walks-out r f k q u few (stays z w v) =
+        unwalked refl k (subst (λ (b : Answer). (b.number ≡ 26) ⊎ (b.number ≡ 28)) (sym (u.answer ∙ ap (λ (t : Turn Held). t.answer) (q h))) z)
+        (still u (ap (λ (t : Turn Held). t.machine) (q h) ∙ ap (searched_in h) v)) (u.output ∙ ap (λ (t : Turn Held). shown t.answer.listing l) (q h) ∙ ap (λ (j : machine.Shown). shown j l) w)
+
+    request-out : (r : Request) → GoodSearching h.model h.search → Turns x h r a l → ((n : ℕ) → output_of (on' r) ≡ some n → length l ≡ n) → Out y (on' r)
+    unfolding acts Names Walks
+    request-out list' g u long = list-out u (long listing_length refl)
+    request-out (step' d) g u long = step-out u (long listing_length refl)
+    request-out report' g u long = report-out u (long report_length refl)
+    request-out (search' n d) g u long = search-out n d u
+    request-out (save' n) g u long = saves-out (save' n) (saving n) tt (λ k. refl) u (saving-answers n (timed_of h) h.saves)
+    request-out (return' n) g u long = saves-out (return' n) (returning n) tt (λ k. refl) u (returning-answers n (timed_of h) h.saves)
+    request-out (forget' n) g u long = saves-out (forget' n) (forgetting n) tt (λ k. refl) u (forgetting-answers n (timed_of h) h.saves)
+    request-out (timed' ds d) g u long = timed-out u (long listing_length refl)
+    request-out (run' ws vs n k) g u long = run_out ws vs n k u
+    request-out (begin' n d) g u long = walks-out (begin' n d) (begins n d) tt (λ k. refl) u (begins-few n d m s h.search) (begins-walked n d m s h.search)
+    request-out (carry' n) g u long = walks-out (carry' n) (λ m s. carries_by n m) tt (λ k. refl) u (carries-few n m h.search g) (carries-walked n m h.search)
 
   -- ---- every call
 
@@ -248,7 +273,7 @@ module _ (x : Engine) (a : (p : Part) → Lending (Cell p) (size p)) (l : List �
   unfolding fed
   request-right (zeros e) r w = shut_out (zeros e) refl r w
   request-right (held {h = h} text m e g) r w =
-      request-out h refl r (request-turns (held text m e g) a l (held text m e g) h refl r w) (on (lent-so (fed (make (on' r) a l))) w).output
+      request-out h refl r g.search (request-turns (held text m e g) a l (held text m e g) h refl r w) (on (lent-so (fed (make (on' r) a l))) w).output
 
   outcome-at : {y : Machine} → Holds x y → (k : Ask) → Out y k
   unfolding untouched no

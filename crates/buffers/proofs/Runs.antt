@@ -7,13 +7,14 @@ use lib.ListN.{length}
 use Rattle.value.proofs.Kit.{false-not-true, true-not-false}
 use Rattle.model.specs.Opening.{Opening, refused, opened, opening}
 use Rattle.profile.specs.Opening.{opening_steady}
-use Rattle.machine.specs.Machine.{as_lent, Answer, no, listed_as, reported_as, found_as, ran_as, turn, Machine, closed, Request, list', step', report', search', timed', run', save', return', forget', Ask, open', open_steady', on', Part, uses, has_lengths, call, opens, asked_of_machine, calls}
+use Rattle.machine.specs.Machine.{as_lent, Answer, no, listed_as, reported_as, found_as, ran_as, turn, Machine, closed, Request, list', step', report', search', timed', run', save', return', forget', Ask, open', open_steady', on', Part, uses, has_lengths, call, opens, asked_of_machine, calls, progress_as, begin', carry', asked_of_machine}
 use Rattle.machine.specs.Results as results
-use Rattle.machine.specs.Results.{Lists, Chooses, Names, Carries, under1, under2-10, under11, under12, under13, under14, under15-19, under23-25, under20, return21, forget21, save22, under2-29, under26, under27}
+use Rattle.machine.specs.Results.{Lists, Chooses, Names, Carries, under1, under2-10, under11, under12, under13, under14, under15-19, under23-25, under20, return21, forget21, save22, under2-29, under26, under27, begin26, under-way, ended27, under28}
 use Rattle.machine.proofs.Carries.{carries}
 use Rattle.buffers.specs.Parts.{Engine}
 use Rattle.buffers.specs.Effect.{machine_in, untouched, opens_with, leaves, requested, answered, effect}
 
+-- 02, notes 8 and 10: a call that can answer with a run
 unfoldable pub is_search : Ask → Bool
 is_search (open' text) = false
 is_search (open_steady' text) = false
@@ -26,6 +27,24 @@ is_search (on' (run' ws vs n l)) = false
 is_search (on' (save' n)) = false
 is_search (on' (return' n)) = false
 is_search (on' (forget' n)) = false
+is_search (on' (begin' x d)) = false
+is_search (on' (carry' n)) = true
+
+-- in one call
+unfoldable is_whole : Ask → Bool
+is_whole (open' text) = false
+is_whole (open_steady' text) = false
+is_whole (on' list') = false
+is_whole (on' (step' d)) = false
+is_whole (on' report') = false
+is_whole (on' (search' x d)) = true
+is_whole (on' (timed' ds d)) = false
+is_whole (on' (run' ws vs n l)) = false
+is_whole (on' (save' n)) = false
+is_whole (on' (return' n)) = false
+is_whole (on' (forget' n)) = false
+is_whole (on' (begin' x d)) = false
+is_whole (on' (carry' n)) = false
 
 -- ---- the answer of an effect is the machine's
 
@@ -55,7 +74,7 @@ carried k x l = subst (Carries k) (sym (answer-is k x l)) (carries (over k x) (c
 -- ---- no run
 
 no_run : {k : Ask} {a : Answer} → Carries k a → is_search k ≡ false → a.run ≡ []
-unfolding no listed_as reported_as ran_as is_search
+unfolding no listed_as reported_as ran_as progress_as is_search
 no_run under1 e = refl
 no_run results.opens e = refl
 no_run (under2-10 n p l m) e = refl
@@ -79,6 +98,12 @@ no_run save22 e = refl
 no_run (results.searches r l) e = true-not-false e
 no_run under26 e = refl
 no_run under27 e = refl
+no_run results.begins e = refl
+no_run begin26 e = refl
+no_run (under-way c l) e = refl
+no_run (results.ended c r l) e = true-not-false e
+no_run (ended27 c l) e = refl
+no_run under28 e = refl
 
 -- of a call that is no search
 pub without-run : (k : Ask) (x : Engine) (l : List ℕ) → is_search k ≡ false → (effect k x l).answer.run ≡ []
@@ -93,8 +118,8 @@ pub record Alone (a : Answer) : Type 0 where
   pub total : a.total ≡ 0
   pub chosen : a.chosen ≡ 0
 
-no-lists : (r : Request) → is_search (on' r) ≡ true → Lists r → ⊥
-unfolding is_search Lists
+no-lists : (r : Request) → is_whole (on' r) ≡ true → Lists r → ⊥
+unfolding is_whole Lists
 no-lists list' e h = false-not-true e
 no-lists (step' d) e h = false-not-true e
 no-lists report' e h = false-not-true e
@@ -104,9 +129,11 @@ no-lists (run' ws vs n l) e h = h
 no-lists (save' n) e h = h
 no-lists (return' n) e h = h
 no-lists (forget' n) e h = h
+no-lists (begin' x d) e h = h
+no-lists (carry' n) e h = h
 
-no-choice : (r : Request) → is_search (on' r) ≡ true → Chooses r → ⊥
-unfolding is_search Chooses
+no-choice : (r : Request) → is_whole (on' r) ≡ true → Chooses r → ⊥
+unfolding is_whole Chooses
 no-choice list' e h = h
 no-choice (step' d) e h = false-not-true e
 no-choice report' e h = h
@@ -116,9 +143,11 @@ no-choice (run' ws vs n l) e h = h
 no-choice (save' n) e h = h
 no-choice (return' n) e h = h
 no-choice (forget' n) e h = h
+no-choice (begin' x d) e h = h
+no-choice (carry' n) e h = h
 
-alone : {k : Ask} {a : Answer} → Carries k a → is_search k ≡ true → Alone a
-unfolding no found_as is_search
+alone : {k : Ask} {a : Answer} → Carries k a → is_whole k ≡ true → Alone a
+unfolding no found_as is_whole
 alone under1 e = record { place = refl; branch = refl; count = refl; total = refl; chosen = refl }
 alone results.opens e = record { place = refl; branch = refl; count = refl; total = refl; chosen = refl }
 alone (under2-10 n p l m) e = absurd (false-not-true e)
@@ -142,7 +171,13 @@ alone save22 e = record { place = refl; branch = refl; count = refl; total = ref
 alone (results.searches r l) e = record { place = refl; branch = refl; count = refl; total = refl; chosen = refl }
 alone under26 e = record { place = refl; branch = refl; count = refl; total = refl; chosen = refl }
 alone under27 e = record { place = refl; branch = refl; count = refl; total = refl; chosen = refl }
+alone results.begins e = absurd (false-not-true e)
+alone begin26 e = absurd (false-not-true e)
+alone (under-way c l) e = absurd (false-not-true e)
+alone (results.ended c r l) e = absurd (false-not-true e)
+alone (ended27 c l) e = absurd (false-not-true e)
+alone under28 e = absurd (false-not-true e)
 
 -- of a search
 pub run_alone : (n : List ℕ) (d : ℕ) (x : Engine) (l : List ℕ) → Alone (effect (on' (search' n d)) x l).answer
-run_alone n d x l = alone (carried (on' (search' n d)) x l) (unfold is_search in refl)
+run_alone n d x l = alone (carried (on' (search' n d)) x l) (unfold is_whole in refl)

@@ -16,7 +16,7 @@ use Rattle.machine.specs.State.{State, state_length, state_numbers, GoodState}
 use Rattle.machine.specs.Timed.{Timed, timed}
 use Rattle.machine.specs.Saves.{Saves, saves_length, GoodSaves, Stored}
 use Rattle.machine.specs.Machine as machine
-use Rattle.machine.specs.Machine.{model_length, as_lent, no, Turn, Held, held_with, stored_in, Machine, closed, holding, on_saves, Request, acts, Part, model, state, saves, clock, three_parts, uses, is_lent, all_parts, on_machine}
+use Rattle.machine.specs.Machine.{model_length, as_lent, no, Turn, Held, held_with, stored_in, Machine, closed, holding, on_saves, Request, acts, Part, model, state, saves, clock, search, three_parts, uses, is_lent, all_parts, on_machine}
 use Rattle.state.specs.Fits.{scopes_of}
 use Rattle.state.specs.Test.{is_state}
 use Rattle.state.specs.Decode.{decode}
@@ -167,3 +167,4 @@ stores r f q u x l m s ss e =
     at state = unfold left_in is_lent numbers_of with_stored in refl
     at saves = unfold left_in is_lent numbers_of with_stored in refl
     at clock = unfold left_in is_lent numbers_of with_stored in refl
+    at search = unfold left_in is_lent numbers_of with_stored in refl

@@ -19,7 +19,7 @@ use Rattle.rules.proofs.Chosen.{chooses-first}
 use Rattle.machine.specs.State.{State, state_numbers, GoodProcess, GoodState}
 use Rattle.machine.specs.Report.{report_length, report_of}
 use Rattle.machine.specs.Machine.{listing_length, Shown, filled, as_lent, Answer, no, listed_as, reported_as, Listed, entries_are, Turn, drawn, showing, lists, sharing, reports, choosing, steps_with, Held, moved, Machine, closed, holding, on_state}
-use Rattle.machine.specs.Machine.{Request, list', step', report', Ask, on', acts, Part, model, state, saves, clock, size, lent_to, output_of, uses, is_lent, all_parts, has_lengths, on_machine, after}
+use Rattle.machine.specs.Machine.{Request, list', step', report', Ask, on', acts, Part, model, state, saves, clock, search, size, lent_to, output_of, uses, is_lent, all_parts, has_lengths, on_machine, after}
 use Rattle.machine.specs.Machine as machine
 use Rattle.machine.specs.Questions.{Lists, no12, no13, no14, yes14, Steps, no15, no16, no17, no18, no19, yes19}
 use Rattle.machine.proofs.Everys.{every-nth}
@@ -153,6 +153,7 @@ module _ {x : Engine} {h : Held} (b : Holds x (holding h)) (es : List Entry) (q 
       at state = t.lent state refl ∙ ap (λ (k : Listed). state_numbers (choosing m s d k).machine) q
       at saves = t.unlent saves refl
       at clock = t.unlent clock refl
+      at search = t.unlent search refl
 
   taking : (l : List ℕ) (d : ℕ) → length l ≡ listing_length → (effect_of x (asks (on' (step' d)) l)).answer.number ≡ 0 → Takes m s es d (effect_of x (asks (on' (step' d)) l))
   unfolding with_state

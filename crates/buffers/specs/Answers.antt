@@ -1,7 +1,8 @@
 -- What a list, a step, a report, a search and a timed step answer and leave over any buffers that hold a model and a state (01, Listing and stepping; 02, notes 4, 6 and 8): what the questions allow, and nothing else;
--- what a save, a return and a forget do (02, notes 2 and 4); and a run (docs/DECISIONS.md, R.4 to R.7).
+-- what a save, a return and a forget do (02, notes 2 and 4); a run (docs/DECISIONS.md, R.4 to R.7); and a search that is begun and carried on (02, note 10).
 -- Definitions only.
 use Rattle.std.specs.Prelude.{List, ℕ}
+use Rattle.std.proofs.Math.Option.{Option}
 use Rattle.model.specs.Resolved
 use Rattle.rules.specs.Listing.{Entry}
 use Rattle.machine.specs.State.{State, state_numbers}
@@ -9,13 +10,14 @@ use Rattle.machine.specs.Report.{report_of}
 use Rattle.clock.specs.declared.Clock.{Clock}
 use Rattle.machine.specs.Timed.{Timed}
 use Rattle.machine.specs.Saves.{Stored}
-use Rattle.machine.specs.Machine.{as_lent, Answer, no, listed_as, reported_as, entries_are, refused_with, Turn, Run, ran_as}
+use Rattle.machine.specs.Machine.{as_lent, Answer, no, listed_as, reported_as, entries_are, refused_with, Turn, Run, ran_as, Search}
 use Rattle.machine.specs.Runs.{event_numbers}
 use Rattle.machine.specs.Questions.{Lists, Steps, Times}
 use Rattle.machine.specs.Searching.{Searches}
 use Rattle.saves.specs.Places.{saves_numbers}
+use Rattle.underway.specs.Buffer.{search_numbers}
 use Rattle.buffers.specs.Listing.{shown, listing_numbers}
-use Rattle.buffers.specs.Parts.{Engine, with_state, with_timed, with_stored, with_kept}
+use Rattle.buffers.specs.Parts.{Engine, with_state, with_timed, with_stored, with_kept, with_search}
 use Rattle.buffers.specs.Effect.{Effect}
 
 module _ (m : Resolved.Model) (s : State) (x : Engine) (l : List ℕ) where
@@ -56,3 +58,7 @@ keeps_as x l t = record { answer = no t.number 0 0 as_lent; left = with_kept x (
 -- R.4 to R.7: what a run came to: its answer, its state and its clock, and its events over what was lent
 unfoldable pub runs_as : Engine → List ℕ → Run → Effect
 runs_as x l r = record { answer = ran_as r; left = with_timed x (state_numbers r.timed.state) r.timed.clock; output = event_numbers r.events l }
+
+-- 02, note 10: what a turn of the search came to: its answer, and the search alone moves
+unfoldable pub walks_as : Engine → List ℕ → Turn (Option Search) → Effect
+walks_as x l t = record { answer = t.answer; left = with_search x (search_numbers t.machine); output = l }

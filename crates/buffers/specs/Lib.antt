@@ -13,3 +13,4 @@ pub mod Answers
 pub mod Outcomes
 pub mod Independent
 pub mod Steady
+pub mod Pieces

@@ -3,7 +3,7 @@
 // Runs a script of calls from standard input, or from each file that an argument names, after a line `== NAME`. Each script has a fresh engine.
 //
 // A script has lines `open N` and `steady N`, which a text of N bytes and an LF follow, `list`, `step D`, `report`, `save NAME`, `return NAME`, `forget NAME`, `independent I J`, `state`, `wait W`, `time D`,
-// `clock`, `seek D NAME`, `word U` and `run N`. N, D, I, J, U and W are decimal digits alone, below 2^64, W below 65,536, leading zeros or not, each after a single blank; NAME is all bytes after the blank, perhaps none. Every line
+// `clock`, `seek D NAME`, `begin D NAME`, `carry N`, `word U` and `run N`. N, D, I, J, U and W are decimal digits alone, below 2^64, W below 65,536, leading zeros or not, each after a single blank; NAME is all bytes after the blank, perhaps none. Every line
 // ends with an LF, also the last. Lines are counted from 1 by their LFs, those within texts too.
 //
 // Each call prints `number place branch count total chosen`, then each entry of the listing on a line of its own, after two blanks, and a report that is accepted
@@ -13,9 +13,10 @@
 // `word U` prints nothing: it puts a word after those so far. `run N` is a run of at most N steps with these words and waiting draws, up to 4,096 of each, after which there are none, and room for 1,024 events:
 // it prints its number, the steps, words and waiting draws that it used, the count and the total of its last listing, then the eight numbers of each event on a line of its own, after two blanks.
 // `seek D NAME`, D being one digit, searches to the depth D for the wait NAME, and prints its number, the run's length and eight entry numbers.
+// `begin D NAME` begins such a search, and is a call as `save NAME` is. `carry N` carries it on by N states, and prints its number, the count, 1 if it ended and else 0, the run's length and eight entry numbers.
 // A line of another form prints `bad,LINE` and ends the script; so does `open N` or `steady N` whose text is cut short or has no LF after it. Nothing is called for it.
 // The argument `rows` names no file: it runs the rows of rows.rt, of right lengths and of wrong ones, by script::run, all but a last one by one call, and prints how many were run, the answers, the first numbers of the outputs and the clock.
-// A text is lent to open up to 16,385 bytes, a name up to 19: as many are too many already, so the bytes after them change no answer.
+// A text is lent to open up to 16,385 bytes, a name up to 20: as many are too many already, so the bytes after them change no answer.
 mod rows;
 
 use arrayvec::ArrayVec;
@@ -38,10 +39,12 @@ impl Limits {
     // Bytes of one read.
     const READ: usize = 65536;
 
-    // Bytes of a line before its name: `save `, and `return `, `forget ` or `seek D `.
+    // Bytes of a line before its name: `save `, `return `, `forget ` or `seek D `, and `begin D `.
     const SAVE: u64 = 5;
 
     const RETURN: u64 = 7;
+
+    const BEGIN: u64 = 8;
 
     // Waiting draws and words that are kept.
     const DRAWS: usize = 4096;
@@ -51,15 +54,17 @@ impl Limits {
     // Numbers of an event.
     const EVENT: usize = 1 + listing::Limits::ENTRY;
 
-    // Numbers of a run that a search found: its length and eight entry numbers.
+    // Numbers of a run that a search found: its length and eight entry numbers; and where they stand in an answer.
     const FOUND: usize = 9;
+
+    const FOUND_AT: usize = 6;
 }
 
 type Text = [u8; Limits::TEXT];
 
 type Listing = [u64; Engine::LISTING];
 
-// A call, with the size of its text; or how many bytes of its line are kept, a name the last of them; or a draw or limit. Not a Line: five lines are no call and have no row.
+// A call, with the size of its text; or how many bytes of its line are kept, a name the last of them; or a draw, a limit or a number of states. Not a Line: five lines are no call and have no row.
 #[derive(Clone, Copy)]
 enum Call {
     Open(u64),
@@ -73,6 +78,8 @@ enum Call {
     Forget(u64),
     // A depth, and how many bytes of the line are kept.
     Search(u64, u64),
+    Begin(u64, u64),
+    Carry(u64),
     Run(u64),
 }
 
@@ -126,6 +133,16 @@ impl Call {
                 number,
                 ..with_name(Row::SEARCH, Limits::RETURN, kept, row)
             },
+            Call::Begin(number, kept) => Row {
+                number,
+                ..with_name(Row::BEGIN, Limits::BEGIN, kept, row)
+            },
+            Call::Carry(number) => Row {
+                kind: Row::CARRY,
+                number,
+                output: 0,
+                ..row
+            },
             Call::Run(number) => Row {
                 kind: Row::RUN,
                 number,
@@ -167,6 +184,7 @@ impl<'a> Lent<'a> {
             model: Engine::MODEL,
             state: Engine::STATE,
             saves: Engine::SAVES,
+            search: Engine::SEARCH,
             start: 0,
             words: self.words.len(),
         }
@@ -186,12 +204,13 @@ fn numbers_of(row: Row) -> [u64; Row::WIDTH] {
         row.model as u64,
         row.state as u64,
         row.saves as u64,
+        row.search as u64,
         row.start as u64,
         row.words as u64,
     ]
 }
 
-// What a call answers: the six numbers of every call, what a search found, and how much a run used.
+// What a call answers: the six numbers of every call, what a search found, and how much a run used, or whether a search has ended.
 #[derive(Clone, Copy)]
 struct Answer {
     number: u64,
@@ -222,7 +241,7 @@ impl From<[u64; Row::ANSWER]> for Answer {
             waiting,
         ] = numbers;
         let mut found = [0u64; Limits::FOUND];
-        found.copy_from_slice(&numbers[6..6 + Limits::FOUND]);
+        found.copy_from_slice(&numbers[Limits::FOUND_AT..][..Limits::FOUND]);
         Answer {
             number,
             place,
@@ -241,6 +260,11 @@ impl From<[u64; Row::ANSWER]> for Answer {
 impl Answer {
     fn accepted(&self) -> bool {
         self.number == 0
+    }
+
+    // Whether a search that was carried on has ended, which stands where a run's steps do.
+    fn ended(&self) -> u64 {
+        self.steps
     }
 
     // The six numbers that every call answers.
@@ -277,6 +301,7 @@ pub struct Machine {
     model: [u8; Engine::MODEL],
     state: [i64; Engine::STATE],
     saves: [i64; Engine::SAVES],
+    search: [i64; Engine::SEARCH],
     clock: [u64; Row::CLOCK],
 }
 
@@ -287,6 +312,7 @@ impl Machine {
             model: [0; Engine::MODEL],
             state: [0; Engine::STATE],
             saves: [0; Engine::SAVES],
+            search: [0; Engine::SEARCH],
             clock: [0; Row::CLOCK],
         }
     }
@@ -308,6 +334,7 @@ impl Machine {
             &mut self.model,
             &mut self.state,
             &mut self.saves,
+            &mut self.search,
             &mut self.clock,
             outputs,
             &mut answer,
@@ -401,7 +428,7 @@ impl Bench {
         output::put_line(out, &report, ' ')
     }
 
-    // Makes a call with a name. The last listing stays.
+    // Makes a call that lists nothing. The last listing stays.
     fn call_named(&mut self, call: Call) -> Answer {
         let lent = Lent::bytes(&self.text);
         self.machine.call(call, lent, &mut self.listing)
@@ -411,6 +438,19 @@ impl Bench {
     fn put_search(&mut self, out: &mut impl Write, depth: u64, kept: u64) -> io::Result<()> {
         let answer = self.call_named(Call::Search(depth, kept));
         write!(out, "{} ", answer.number)?;
+        output::put_line(out, &answer.found, ' ')
+    }
+
+    // A search that is carried on: its number, the count, whether it ended, the run's length and eight entry numbers.
+    fn put_carried(&mut self, out: &mut impl Write, number: u64) -> io::Result<()> {
+        let answer = self.call_named(Call::Carry(number));
+        write!(
+            out,
+            "{} {} {} ",
+            answer.number,
+            answer.count,
+            answer.ended()
+        )?;
         output::put_line(out, &answer.found, ' ')
     }
 
@@ -474,6 +514,8 @@ impl Bench {
             Line::Return(kept) => self.call_named(Call::Return(kept)).put(out),
             Line::Forget(kept) => self.call_named(Call::Forget(kept)).put(out),
             Line::Search(depth, kept) => self.put_search(out, depth, kept),
+            Line::Begin(depth, kept) => self.call_named(Call::Begin(depth, kept)).put(out),
+            Line::Carry(number) => self.put_carried(out, number),
             Line::State => output::put_line(out, &self.machine.state, ' '),
             Line::Clock => output::put_line(out, &self.machine.clock, ' '),
             Line::Independent(i, j) => {

@@ -46,7 +46,16 @@ fn list(text: &[u8], listing: &mut [u64; Engine::LISTING]) -> Result<Answer, Ans
     let mut model = [0u8; Engine::MODEL];
     let mut state = [0i64; Engine::STATE];
     let mut saves = [0i64; Engine::SAVES];
-    accepted(engine::open(text, &mut model, &mut state, &mut saves, Clock::fresh()).answer)?;
+    let mut search = [0i64; Engine::SEARCH];
+    let opened = engine::open(
+        text,
+        &mut model,
+        &mut state,
+        &mut saves,
+        &mut search,
+        Clock::fresh(),
+    );
+    accepted(opened.answer)?;
     accepted(engine::list(&model, &state, listing))
 }
 

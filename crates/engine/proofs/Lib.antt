@@ -8,3 +8,4 @@ pub mod Drawn
 pub mod Reported
 pub mod Waits
 pub mod Runs
+pub mod Underway

@@ -21,7 +21,7 @@ use Rattle.machine.proofs.Numbers.{state-length}
 use Rattle.machine.proofs.Saves.{returning-holds, StoredAnswers, accepts, refuses, returning-answers}
 use Rattle.state.specs.Test.{at}
 use Rattle.machine.specs.Saves.{is_name, Saves, save_limit, place_of, place_for, kept_under, place_width, timed_length, saves_length, Stored, stored, replaced, removed, saving, returning, forgetting}
-use Rattle.machine.specs.Machine.{no, Held, held_all, Machine, closed, holding, on_saves, Request, save', return', forget', on', acts, Part, model, state, saves, clock, three_parts, four_parts, uses, is_lent, all_parts, on_machine}
+use Rattle.machine.specs.Machine.{no, Held, held_all, Machine, closed, holding, on_saves, Request, save', return', forget', on', acts, Part, model, state, saves, clock, search, three_parts, four_parts, uses, is_lent, all_parts, on_machine}
 use Rattle.state.specs.Fits.{scopes_of}
 use Rattle.state.specs.Test.{is_state}
 use Rattle.state.proofs.Over.{few-scopes}
@@ -136,6 +136,7 @@ module _ (n : List ℕ) (bs : List ℕ) (zs ss : List ℤ) (long : length zs ≡
           at state = unfold lent_three with_stored in w.kept ∙ (forget-numbers n zs zs ss).2 ∙ z ∙ sym (ap (λ (t : Timed). state_numbers t.state) (forget-kept n (timed s fresh_clock) rs))
           at saves = unfold lent_three with_stored stored_numbers in w.saves ∙ (forget-numbers n zs (kept_numbers (timed s fresh_clock)) ss).1 ∙ ap (λ (k : Written). k.saves) q
           at clock = unfold lent_three with_stored in refl
+          at search = unfold lent_three with_stored in refl
 
       by : {y : Machine} → InThree y → machine_in three_parts (lent_three bs zs ss) ≡ y → Gives (answered (on' (forget' n)) (lent_three bs zs ss) []) (bare k 0 0) (lent_three bs zs' ss') []
       by nothing q = false-not-true (sym (ap is_holding q) ∙ e)
@@ -283,6 +284,7 @@ module _ (bs : List ℕ) (zs ss : List ℤ) (c : Clock) where
         at state = unfold lent_all with_kept in b
         at saves = unfold lent_all with_kept in d
         at clock = unfold lent_all with_kept in ap clock_numbers g
+        at search = unfold lent_all with_kept in refl
 
     pub save-gives : (n : List ℕ) (k : ℕ) (ks ss' : List ℤ) → Stores (saving_numbers n (besides zs c) ss) k ks ss' → Gives (answered (on' (save' n)) Y []) (bare k 0 0) (lent_all bs zs ss' c) []
     unfolding acts stored_numbers

@@ -16,7 +16,7 @@ use Rattle.model.specs.Resolved
 use Rattle.machine.specs.State.{State, state_length, state_numbers}
 use Rattle.machine.specs.Timed.{Timed, timed}
 use Rattle.machine.specs.Machine as machine
-use Rattle.machine.specs.Machine.{model_length, listing_length, no, zeroed, listed_as, Listed, Turn, turn, drawn, choosing, steps_with, steps_in, times_with, held, Machine, closed, holding, on_clock, timed', on', acts, Part, model, state, saves, clock, two_parts, timed_parts, is_lent, all_parts, has_lengths, on_machine}
+use Rattle.machine.specs.Machine.{model_length, listing_length, no, zeroed, listed_as, Listed, Turn, turn, drawn, choosing, steps_with, steps_in, times_with, held, Machine, closed, holding, on_clock, timed', on', acts, Part, model, state, saves, clock, search, two_parts, timed_parts, is_lent, all_parts, has_lengths, on_machine}
 use Rattle.buffers.specs.Held.{held_in}
 use Rattle.buffers.specs.Listing.{shown}
 use Rattle.buffers.specs.Parts.{Engine, clock_numbers, numbers_of, is_part, read_held, lent_two, lent_timed}
@@ -100,6 +100,7 @@ module _ (bs : List ℕ) (zs : List ℤ) (c : Clock) (ds : List ℕ) (d : ℕ) (
   left-timed ys m r k e state = e
   left-timed ys m r k e saves = refl
   left-timed ys m r k e clock = refl
+  left-timed ys m r k e search = refl
 
   -- the result and the buffers of a turn
   gives-turn : (m : Resolved.Model) (u : Turn Timed) (r : result.Answer) (ys : List ℤ) (l' : List ℕ)

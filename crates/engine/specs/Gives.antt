@@ -1,7 +1,7 @@
 -- What a call gives: the answer, number by number, and the buffers as an effect says (01, Rule machine). Definitions only.
 use Rattle.std.specs.Prelude.{◌≡◌, Bool, true, false, ◌&&◌, List, ℕ, eqb, Result, Err, Ok}
 use Rattle.machine.specs.Saves.{saves_length}
-use Rattle.machine.specs.Machine.{Machine, closed, holding, Part}
+use Rattle.machine.specs.Machine.{Machine, closed, holding, Part, search_length}
 use Rattle.buffers.specs.Parts.{Engine}
 use Rattle.buffers.specs.Effect.{Effect}
 use Rattle.token.specs.declared.Refusal as token
@@ -84,6 +84,14 @@ are_long model state output right = are_parts_long model state && eqb output rig
 -- 02, note 2, 1: of the model, the state and the saves
 unfoldable pub are_all_long : (model state saves : ℕ) → Bool
 are_all_long model state saves = are_parts_long model state && eqb saves saves_length
+
+-- 02, note 10, 1: and of the search
+unfoldable pub are_whole_long : (model state saves search : ℕ) → Bool
+are_whole_long model state saves search = are_all_long model state saves && eqb search search_length
+
+-- 02, note 10, 1: of the model, the state and the search
+unfoldable pub are_search_long : (model state search : ℕ) → Bool
+are_search_long model state search = are_parts_long model state && eqb search search_length
 
 -- 01, 11
 unfoldable pub is_holding : Machine → Bool

@@ -1,6 +1,6 @@
 #![tactic(auto)]
 
-// An engine: its calls open, open_steady, list, step, step_timed, run, report, save, return_to and forget, and, in searches, search; and what they answer.
+// An engine: its calls open, open_steady, list, step, step_timed, run, report, save, return_to and forget, and, in searches, search, begin and carry_on; and what they answer.
 pub mod held;
 pub mod listings;
 pub mod queries;
@@ -14,9 +14,9 @@ ghost use Rattle.std.specs.Prelude.{◌≡◌, [], length};
 ghost use Rattle.clock.specs.Clock.{InRange};
 ghost use Rattle.machine.specs.State.{state_length};
 ghost use Rattle.machine.specs.Machine.{model_length, listing_length, list', step', report', timed', run', save', return', forget', open', open_steady', on'};
-ghost use Rattle.buffers.specs.Parts.{lent_two, lent_three, lent_timed, lent_all};
+ghost use Rattle.buffers.specs.Parts.{lent_two, lent_three, lent_timed, lent_all, lent_whole};
 ghost use Rattle.buffers.specs.Effect.{answered, effect};
-ghost use Rattle.engine.specs.Gives.{bare, filled, refusal_number, refusal_answer, accepted, answer_of, of_listing, of_text, of_run, Gives, are_long, are_all_long};
+ghost use Rattle.engine.specs.Gives.{bare, filled, refusal_number, refusal_answer, accepted, answer_of, of_listing, of_text, of_run, Gives, are_long, are_all_long, are_whole_long};
 ghost use Rattle.engine.specs.Waited.{timed, timed_by};
 ghost use Rattle.engine.specs.Ran.{GivesRan, told_of, unbegun};
 ghost use Rattle.engine.specs.Asks.{ask_under};
@@ -272,6 +272,13 @@ fn are_all_long(model: usize, state: usize, saves: usize) -> bool
     simulation::are_parts_long(model, state) && saves == Engine::SAVES
 }
 
+// Question 1 of all that an opening is lent.
+fn are_whole_long(model: usize, state: usize, saves: usize, search: usize) -> bool
+    ensures { result ≡ are_whole_long model state saves search }
+{
+    are_all_long(model, state, saves) && search == Engine::SEARCH
+}
+
 // Opens a text under a profile.
 fn open_under(
     profile: Profile,
@@ -279,29 +286,32 @@ fn open_under(
     model: &mut [u8],
     state: &mut [i64],
     saves: &mut [i64],
+    search: &mut [i64],
     clock: Clock,
 ) -> Timed
-    ensures { Gives (effect (ask_under profile text.now) (lent_all model.old state.old saves.old clock) []) result.answer (lent_all model.new state.new saves.new result.clock) [] }
+    ensures { Gives (effect (ask_under profile text.now) (lent_whole model.old state.old saves.old clock search.old) []) result.answer (lent_whole model.new state.new saves.new result.clock search.new) [] }
 {
-    if !are_all_long(model.len(), state.len(), saves.len()) {
+    if !are_whole_long(model.len(), state.len(), saves.len(), search.len()) {
         return Timed::of(Answer::from(Refusal::Lengths), clock);
     }
     saves.fill(0);
+    search.fill(0);
     let answer = texts::open_lent(profile, text, model, state);
     Timed::of(answer, Clock::fresh())
 }
 
-// Reads a model text, sets the engine to its start, forgets every save and sets the clock, which goes by value, to zero.
+// Reads a model text, sets the engine to its start, forgets every save, ends a search under way and sets the clock, which goes by value, to zero.
 pub fn open(
     text: &[u8],
     model: &mut [u8],
     state: &mut [i64],
     saves: &mut [i64],
+    search: &mut [i64],
     clock: Clock,
 ) -> Timed
-    ensures { Gives (effect (open' text.now) (lent_all model.old state.old saves.old clock) []) result.answer (lent_all model.new state.new saves.new result.clock) [] }
+    ensures { Gives (effect (open' text.now) (lent_whole model.old state.old saves.old clock search.old) []) result.answer (lent_whole model.new state.new saves.new result.clock search.new) [] }
 {
-    open_under(Profile::Plain, text, model, state, saves, clock)
+    open_under(Profile::Plain, text, model, state, saves, search, clock)
 }
 
 // The same under the steady profile: a text is refused where a continuation may leave more than one process.
@@ -310,11 +320,12 @@ pub fn open_steady(
     model: &mut [u8],
     state: &mut [i64],
     saves: &mut [i64],
+    search: &mut [i64],
     clock: Clock,
 ) -> Timed
-    ensures { Gives (effect (open_steady' text.now) (lent_all model.old state.old saves.old clock) []) result.answer (lent_all model.new state.new saves.new result.clock) [] }
+    ensures { Gives (effect (open_steady' text.now) (lent_whole model.old state.old saves.old clock search.old) []) result.answer (lent_whole model.new state.new saves.new result.clock search.new) [] }
 {
-    open_under(Profile::Steady, text, model, state, saves, clock)
+    open_under(Profile::Steady, text, model, state, saves, search, clock)
 }
 
 // Lists every transition that can happen next, with its weight.

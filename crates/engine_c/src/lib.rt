@@ -3,16 +3,18 @@
 // The engine's calls as C makes them (include/matgravel.h). Each is engine's call of that name, with the same contract, but for three: timed_step is step_timed, return is return_to, and independent is independence's, as a number.
 // Where a call moves a clock that it is lent, the clock goes to engine's by value and is written back.
 ghost use Rattle.std.specs.Prelude.{◌≡◌, cond, [], length};
-ghost use Rattle.machine.specs.Machine.{list', step', report', timed', run', save', return', forget', open', open_steady', search', on'};
-ghost use Rattle.buffers.specs.Parts.{lent_two, lent_three, lent_timed, lent_all};
+ghost use Rattle.machine.specs.Machine.{list', step', report', timed', run', save', return', forget', open', open_steady', search', begin', carry', on'};
+ghost use Rattle.buffers.specs.Parts.{lent_two, lent_three, lent_timed, lent_all, lent_search, lent_whole};
 ghost use Rattle.buffers.specs.Effect.{effect};
 ghost use Rattle.independence.specs.Judged.{judged};
 ghost use Rattle.engine.specs.Gives.{Gives};
 ghost use Rattle.engine.specs.Ran.{GivesRan};
 ghost use Rattle.searching.specs.Run.{GivesRun};
+ghost use Rattle.carrying.specs.Turns.{GivesProgress};
 
 use clock::Clock;
 use engine::{Answer, Ran};
+use resuming::Progress;
 use searching::Found;
 
 #[unsafe(no_mangle)]
@@ -21,11 +23,12 @@ pub extern "C" fn matgravel_open(
     model: &mut [u8],
     state: &mut [i64],
     saves: &mut [i64],
+    search: &mut [i64],
     clock: &mut Clock,
 ) -> Answer
-    ensures { Gives (effect (open' text.now) (lent_all model.old state.old saves.old clock.old) []) result (lent_all model.new state.new saves.new clock.new) [] }
+    ensures { Gives (effect (open' text.now) (lent_whole model.old state.old saves.old clock.old search.old) []) result (lent_whole model.new state.new saves.new clock.new search.new) [] }
 {
-    let t = engine::open(text, model, state, saves, *clock);
+    let t = engine::open(text, model, state, saves, search, *clock);
     *clock = t.clock;
     t.answer
 }
@@ -36,11 +39,12 @@ pub extern "C" fn matgravel_open_steady(
     model: &mut [u8],
     state: &mut [i64],
     saves: &mut [i64],
+    search: &mut [i64],
     clock: &mut Clock,
 ) -> Answer
-    ensures { Gives (effect (open_steady' text.now) (lent_all model.old state.old saves.old clock.old) []) result (lent_all model.new state.new saves.new clock.new) [] }
+    ensures { Gives (effect (open_steady' text.now) (lent_whole model.old state.old saves.old clock.old search.old) []) result (lent_whole model.new state.new saves.new clock.new search.new) [] }
 {
-    let t = engine::open_steady(text, model, state, saves, *clock);
+    let t = engine::open_steady(text, model, state, saves, search, *clock);
     *clock = t.clock;
     t.answer
 }
@@ -157,4 +161,29 @@ pub extern "C" fn matgravel_search(model: &[u8], state: &[i64], name: &[u8], dep
     ensures { GivesRun (effect (on' (search' name.now depth)) (lent_two model.now state.now) []) result (lent_two model.now state.now) }
 {
     engine::searches::search(model, state, name, depth)
+}
+
+#[unsafe(no_mangle)]
+pub extern "C" fn matgravel_begin(
+    model: &[u8],
+    state: &[i64],
+    search: &mut [i64],
+    name: &[u8],
+    depth: u64,
+) -> Answer
+    ensures { Gives (effect (on' (begin' name.now depth)) (lent_search model.now state.now search.old) []) result (lent_search model.now state.now search.new) [] }
+{
+    engine::searches::begin(model, state, search, name, depth)
+}
+
+#[unsafe(no_mangle)]
+pub extern "C" fn matgravel_carry_on(
+    model: &[u8],
+    state: &[i64],
+    search: &mut [i64],
+    number: u64,
+) -> Progress
+    ensures { GivesProgress (effect (on' (carry' number)) (lent_search model.now state.now search.old) []) result (lent_search model.now state.now search.new) }
+{
+    engine::searches::carry_on(model, state, search, number)
 }

@@ -1,6 +1,7 @@
 -- A line's first five bytes by their number: the number tells the bytes; and what the whole line says, from the number and the rest.
 use Rattle.std.proofs.Common.{◌≡◌, ℕ, zero, suc, ◌+◌, ◌-◌, ◌*◌, ◌/◌, ◌%◌, ◌<◌, ◌≤◌, min, Bool, true, false, cond, ◌&&◌, eqb, ltb, leb, List, [], ◌∷◌, ◌++◌, length, take, drop, sym, refl, ap, ◌∙◌, ap₂, arith, length-append, length-take, take-take, ltb-false, ltb-true, le-ltb, lt-ltb, eq-eqb, ne_eqb, eqb-true, le-leb, leb-false, leb-true, Some, None, MatchOption}
-use Rattle.std.specs.Prelude.{Option}
+use Rattle.std.specs.Prelude.{Option, ◌⊎◌}
+use mathlib.Core.Logic.{inl, inr}
 use Rattle.std.specs.Bool.{then_some}
 use Rattle.std.specs.Option.{IsSomeAnd}
 use borrow.Author.Tests.{eqb-false, lt-leb}
@@ -9,11 +10,11 @@ use Rattle.token.specs.Bytes.{is_digit, within}
 use Rattle.token.specs.Token.{same_bytes}
 use Rattle.token.proofs.Words.{same-is}
 use Rattle.lines.specs.declared.line.Line.{Line}
-use Rattle.lines.specs.declared.line.Line.TheVariants.{Open, Steady, List as Listing, Step, State, Report, Save, Return, Forget, Time, Clock, Search, Word, Run}
+use Rattle.lines.specs.declared.line.Line.TheVariants.{Open, Steady, List as Listing, Step, State, Report, Save, Return, Forget, Time, Clock, Search, Word, Run, Begin, Carry}
 use Rattle.lines.specs.declared.line.Rest.{Rest}
 use Rattle.lines.specs.declared.line.Rest.TheVariants.{Nothing, Number, T, Other}
 use Rattle.lines.specs.declared.line.Reading.{Reading}
-use Rattle.lines.specs.Line.{list_bytes, state_bytes, report_bytes, open_bytes, steady_bytes, step_bytes, save_bytes, return_bytes, forget_bytes, time_bytes, wait_bytes, clock_bytes, independent_bytes, seek_bytes, word_bytes, run_bytes, small, kept_limit, kept, digits_only, is_number, always, given, sought, line_of, rest_of, rest_next, packed, head_of, after_of, two_bytes, return_end, forget_end, four_bytes, run_head, after_next, late_next, early_next, kept_next, ended, steadied, sought_by, ran_by, number_in, numbered, bare, lettered, Bytes, Reads}
+use Rattle.lines.specs.Line.{list_bytes, state_bytes, report_bytes, open_bytes, steady_bytes, step_bytes, save_bytes, return_bytes, forget_bytes, time_bytes, wait_bytes, clock_bytes, independent_bytes, seek_bytes, word_bytes, run_bytes, begin_bytes, carry_bytes, small, kept_limit, kept, digits_only, is_number, always, given, sought, line_of, rest_of, rest_next, packed, head_of, after_of, further_of, one_byte, two_bytes, three_bytes, return_end, forget_end, four_bytes, run_head, bytes_next, mid_next, late_next, early_next, kept_next, ended, steadied, sought_by, begun_by, carried_by, ran_by, number_in, numbered, bare, lettered, Bytes, Reads}
 use Rattle.lines.specs.declared.two.Two.{Two}
 use Rattle.lines.specs.Two.{begun, run, two_next, paired}
 use Rattle.lines.proofs.Rests.{rest-on}
@@ -70,6 +71,12 @@ seek_head = 1595134012192
 abbrev word_head : ℕ
 word_head = 1612482503712
 
+abbrev begin_head : ℕ
+begin_head = 1522119698798
+
+abbrev carry_head : ℕ
+carry_head = 1526348280441
+
 -- ---- fewer than five bytes, or five and more
 data Size : List ℕ → Type 0 where
   none : Size []
@@ -105,20 +112,23 @@ early-on b (five {a} {b = x} {c} {d} {e} {s}) h = rw (le-ltb (((((256 + a) * 256
 record Short (s : List ℕ) (b : ℕ) : Type 0 where
   head : head_of (s ++ (b ∷ [])) ≡ head_of s * 256 + b
   rest : drop 5 (s ++ (b ∷ [])) ≡ drop 5 s
+  mid : drop 6 (s ++ (b ∷ [])) ≡ drop 6 s
   late : drop 7 (s ++ (b ∷ [])) ≡ drop 7 s
 
 short : {s : List ℕ} (b : ℕ) → Size s → head_of s < full → Short s b
 unfolding head_of packed
-short b none l = record { head = refl; rest = refl; late = refl }
-short b one l = record { head = refl; rest = refl; late = refl }
-short b two l = record { head = refl; rest = refl; late = refl }
-short b three l = record { head = refl; rest = refl; late = refl }
-short b four l = record { head = refl; rest = refl; late = refl }
+short b none l = record { head = refl; rest = refl; mid = refl; late = refl }
+short b one l = record { head = refl; rest = refl; mid = refl; late = refl }
+short b two l = record { head = refl; rest = refl; mid = refl; late = refl }
+short b three l = record { head = refl; rest = refl; mid = refl; late = refl }
+short b four l = record { head = refl; rest = refl; mid = refl; late = refl }
 short b five l = absurd (omega arith)
 
 record Long (s : List ℕ) (b : ℕ) : Type 0 where
   head : head_of (s ++ (b ∷ [])) ≡ head_of s
   rest : drop 5 (s ++ (b ∷ [])) ≡ drop 5 s ++ (b ∷ [])
+  mid : drop 6 s ≡ drop 1 (drop 5 s)
+  mid-on : drop 6 (s ++ (b ∷ [])) ≡ drop 1 (drop 5 s ++ (b ∷ []))
   late : drop 7 s ≡ drop 2 (drop 5 s)
   late-on : drop 7 (s ++ (b ∷ [])) ≡ drop 2 (drop 5 s ++ (b ∷ []))
 
@@ -129,7 +139,7 @@ long b one h l = absurd (omega arith)
 long b two h l = absurd (omega arith)
 long b three h l = absurd (omega arith)
 long b four h l = absurd (omega arith)
-long b five h l = record { head = refl; rest = refl; late = refl; late-on = refl }
+long b five h l = record { head = refl; rest = refl; mid = refl; mid-on = refl; late = refl; late-on = refl }
 
 -- the two bytes after the first five, with one more
 bytes_drop : (n : ℕ) (s : List ℕ) → Bytes s → Bytes (drop n s)
@@ -137,11 +147,26 @@ bytes_drop zero s h = h
 bytes_drop (suc n) [] h = tt
 bytes_drop (suc n) (b ∷ s) h = bytes_drop n s h.1
 
-after_on : (u : List ℕ) (b : ℕ) → Bytes u → after_next (packed 1 (take 2 u)) b ≡ packed 1 (take 2 (u ++ (b ∷ [])))
-unfolding packed after_next
+after_on : (u : List ℕ) (b : ℕ) → Bytes u → bytes_next two_bytes (packed 1 (take 2 u)) b ≡ packed 1 (take 2 (u ++ (b ∷ [])))
+unfolding packed bytes_next
 after_on [] b h = refl
 after_on (x ∷ []) b h = rw (lt-ltb (256 + x) two_bytes (omega (arith, h.0)))
 after_on (x ∷ y ∷ u) b h = rw (le-ltb ((256 + x) * 256 + y) two_bytes (omega arith))
+
+-- the three
+further_on : (u : List ℕ) (b : ℕ) → Bytes u → bytes_next three_bytes (packed 1 (take 3 u)) b ≡ packed 1 (take 3 (u ++ (b ∷ [])))
+unfolding packed bytes_next
+further_on [] b h = refl
+further_on (x ∷ []) b h = rw (lt-ltb (256 + x) three_bytes (omega (arith, h.0)))
+further_on (x ∷ y ∷ []) b h = rw (lt-ltb ((256 + x) * 256 + y) three_bytes (omega (arith, h.0, h.1.0)))
+further_on (x ∷ y ∷ z ∷ u) b h = rw (le-ltb (((256 + x) * 256 + y) * 256 + z) three_bytes (omega arith))
+
+-- what stands after the first of them, with one more
+mid-after : (u : List ℕ) (b : ℕ) → Bytes u → mid_next (packed 1 (take 2 u)) (rest_of (drop 1 u)) b ≡ rest_of (drop 1 (u ++ (b ∷ [])))
+unfolding packed mid_next
+mid-after [] b h = refl
+mid-after (x ∷ []) b h = rw (le-ltb (256 + x) one_byte (omega arith)) (sym (rest-on [] b))
+mid-after (x ∷ y ∷ u) b h = rw (le-ltb ((256 + x) * 256 + y) one_byte (omega arith)) (sym (rest-on (y ∷ u) b))
 
 -- what stands after these, with one more
 late-after : (u : List ℕ) (b : ℕ) → Bytes u → late_next (packed 1 (take 2 u)) (rest_of (drop 2 u)) b ≡ rest_of (drop 2 (u ++ (b ∷ [])))
@@ -158,8 +183,8 @@ kept_on s b = by (ltb (min kept_limit (length s)) kept_limit) refl
     by true e = omega (arith, ltb-true (min kept_limit (length s)) kept_limit e, length-append s (b ∷ []))
     by false e = omega (arith, ltb-false (min kept_limit (length s)) kept_limit e, length-append s (b ∷ []))
 
-pub short_on : {s : List ℕ} {r : Reading} (b : ℕ) (y : Rest) (k' : ℕ) → Reads s r → b < 256 → r.head < full → y ≡ early_next r.head r.early b → k' ≡ kept_next r.kept → Reads (s ++ (b ∷ [])) (record { head = r.head * 256 + b; early = y; rest = r.rest; after = r.after; late = r.late; kept = k'; two = r.two })
-unfolding after_of
+pub short_on : {s : List ℕ} {r : Reading} (b : ℕ) (y : Rest) (k' : ℕ) → Reads s r → b < 256 → r.head < full → y ≡ early_next r.head r.early b → k' ≡ kept_next r.kept → Reads (s ++ (b ∷ [])) (record { head = r.head * 256 + b; early = y; rest = r.rest; after = r.after; mid = r.mid; late = r.late; further = r.further; kept = k'; two = r.two })
+unfolding after_of further_of
 short_on {s} {r} b y k' h k l i n =
     let e = short b (size s) (rw (← h.head) l) in
     record {
@@ -168,24 +193,29 @@ short_on {s} {r} b y k' h k l i n =
       early = i ∙ ap₂ (λ (x : ℕ) (z : Rest). early_next x z b) h.head h.early ∙ early-on b (size s) h.bytes;
       rest = h.rest ∙ ap rest_of (sym e.rest);
       after = h.after ∙ ap (λ (u : List ℕ). packed 1 (take 2 u)) (sym e.rest);
+      mid = h.mid ∙ ap rest_of (sym e.mid);
       late = h.late ∙ ap rest_of (sym e.late);
+      further = h.further ∙ ap (λ (u : List ℕ). packed 1 (take 3 u)) (sym e.rest);
       kept = n ∙ ap kept_next h.kept ∙ kept_on s b;
       two = h.two ∙ ap (run begun) (sym e.rest);
     }
 
-pub long-on : {s : List ℕ} {r : Reading} (b : ℕ) (y t : Rest) (a : ℕ) (q : Rest) (k' : ℕ) (u : Two) → Reads s r → b < 256 → full ≤ r.head → y ≡ early_next r.head r.early b → t ≡ rest_next r.rest b → a ≡ after_next r.after b → q ≡ late_next r.after r.late b → k' ≡ kept_next r.kept → u ≡ two_next r.two b
-    → Reads (s ++ (b ∷ [])) (record { head = r.head; early = y; rest = t; after = a; late = q; kept = k'; two = u })
-unfolding after_of
-long-on {s} {r} b y t a q k' u h k l i n m p j w =
+pub long-on : {s : List ℕ} {r : Reading} (b : ℕ) (y t : Rest) (a : ℕ) (v q : Rest) (f k' : ℕ) (u : Two) → Reads s r → b < 256 → full ≤ r.head → y ≡ early_next r.head r.early b → t ≡ rest_next r.rest b → a ≡ bytes_next two_bytes r.after b → v ≡ mid_next r.after r.mid b
+    → q ≡ late_next r.after r.late b → f ≡ bytes_next three_bytes r.further b → k' ≡ kept_next r.kept → u ≡ two_next r.two b → Reads (s ++ (b ∷ [])) (record { head = r.head; early = y; rest = t; after = a; mid = v; late = q; further = f; kept = k'; two = u })
+unfolding after_of further_of
+long-on {s} {r} b y t a v q f k' u h k l i n m c p d j w =
     let e = long b (size s) h.bytes (rw (← h.head) l) in
     record {
       bytes = bytes_on s b h.bytes k;
       head = h.head ∙ sym e.head;
       early = i ∙ ap₂ (λ (x : ℕ) (z : Rest). early_next x z b) h.head h.early ∙ early-on b (size s) h.bytes;
       rest = n ∙ ap (λ (x : Rest). rest_next x b) h.rest ∙ sym (rest-on (drop 5 s) b) ∙ ap rest_of (sym e.rest);
-      after = m ∙ ap (λ (x : ℕ). after_next x b) h.after ∙ after_on (drop 5 s) b (bytes_drop 5 s h.bytes) ∙ ap (λ (u : List ℕ). packed 1 (take 2 u)) (sym e.rest);
+      after = m ∙ ap (λ (x : ℕ). bytes_next two_bytes x b) h.after ∙ after_on (drop 5 s) b (bytes_drop 5 s h.bytes) ∙ ap (λ (u : List ℕ). packed 1 (take 2 u)) (sym e.rest);
+      mid =
+          c ∙ ap₂ (λ (x : ℕ) (y : Rest). mid_next x y b) h.after (h.mid ∙ ap rest_of e.mid) ∙ mid-after (drop 5 s) b (bytes_drop 5 s h.bytes) ∙ ap rest_of (sym e.mid-on);
       late =
           p ∙ ap₂ (λ (x : ℕ) (y : Rest). late_next x y b) h.after (h.late ∙ ap rest_of e.late) ∙ late-after (drop 5 s) b (bytes_drop 5 s h.bytes) ∙ ap rest_of (sym e.late-on);
+      further = d ∙ ap (λ (x : ℕ). bytes_next three_bytes x b) h.further ∙ further_on (drop 5 s) b (bytes_drop 5 s h.bytes) ∙ ap (λ (u : List ℕ). packed 1 (take 3 u)) (sym e.rest);
       kept = j ∙ ap kept_next h.kept ∙ kept_on s b;
       two = w ∙ ap (λ (x : Two). two_next x b) h.two ∙ sym (run_on begun (drop 5 s) b) ∙ ap (run begun) (sym e.rest);
     }
@@ -350,14 +380,14 @@ forget-then u h = ap (λ (t : Bool). cond t (Some (Forget (kept (forge ++ u)))) 
 abbrev stead : List ℕ
 stead = take 5 steady_bytes
 
-late-then : (u : List ℕ) → numbered (always Steady) (rest_of u) ≡ given (always Steady) u
+number_then : (says : ℕ → Line) (u : List ℕ) → numbered (always says) (rest_of u) ≡ given (always says) u
 unfolding rest_of given is_number same_bytes
-late-then [] = refl
-late-then (b ∷ u) = by_number (always Steady) (is_number (b ∷ u)) (eqb b 116 && same_bytes u []) (worth 0 (b ∷ u))
+number_then says [] = refl
+number_then says (b ∷ u) = by_number (always says) (is_number (b ∷ u)) (eqb b 116 && same_bytes u []) (worth 0 (b ∷ u))
 
 steady_then : (u : List ℕ) → Bytes u → steadied (packed 1 (take 2 u)) (rest_of (drop 2 u)) ≡ line_of (stead ++ u)
 unfolding line_of same_bytes steadied
-steady_then u h = ap₂ (λ (t : Bool) (l : Option Line). cond t l None) (pair_is 121 32 u h (omega arith) (omega arith)) (late-then (drop 2 u))
+steady_then u h = ap₂ (λ (t : Bool) (l : Option Line). cond t l None) (pair_is 121 32 u h (omega arith) (omega arith)) (number_then Steady (drop 2 u))
 
 -- the cases of `seek_line`
 module _ (a k : ℕ) where
@@ -383,7 +413,7 @@ either-way true l = refl
 either-way false l = refl
 
 -- a digit and a blank by their number
-seek-then : (u : List ℕ) (k : ℕ) → Bytes u → sought_by (packed 1 (take 2 u)) k ≡ sought u k
+seek-then : (u : List ℕ) (k : ℕ) → Bytes u → sought_by (packed 1 (take 2 u)) k ≡ sought Search u k
 unfolding packed sought_by sought within is_digit
 seek-then [] k h = refl
 seek-then (x ∷ []) k h =
@@ -415,6 +445,104 @@ seeks-then : (u : List ℕ) → Bytes u → sought_by (packed 1 (take 2 u)) (kep
 unfolding line_of same_bytes
 seeks-then u h = seek-then u (kept (seek_bytes ++ u)) h
 
+-- the cases of `begin_line`
+module _ (a k : ℕ) where
+  pub begin-unparted : (a % 256 ≡ 32 → ⊥) → None ≡ begun_by a k
+  unfolding begun_by
+  begin-unparted n = rw (ne_eqb (a % 256) 32 n) refl
+
+  module _ (e : a % 256 ≡ 32) where
+    pub begin-low : a / 256 < 73776 → None ≡ begun_by a k
+    unfolding begun_by within
+    begin-low l = rw (eq-eqb (a % 256) 32 e, lt-leb 73776 (a / 256) l) refl
+
+    pub begin-high : 73776 ≤ a / 256 → 73785 < a / 256 → None ≡ begun_by a k
+    unfolding begun_by within
+    begin-high m l = rw (eq-eqb (a % 256) 32 e, le-leb 73776 (a / 256) m, lt-leb (a / 256) 73785 l) refl
+
+    pub begin-digit : 73776 ≤ a / 256 → a / 256 ≤ 73785 → Some (Begin (a / 256 - 73776) k) ≡ begun_by a k
+    unfolding begun_by within
+    begin-digit m l = rw (eq-eqb (a % 256) 32 e, le-leb 73776 (a / 256) m, le-leb (a / 256) 73785 l) refl
+
+-- a number that is no digit after a blank
+none-begun : (n k : ℕ) (b : Bool) → (n < 73776) ⊎ (73785 < n) → cond b (cond (within 73776 73785 n) (Some (Begin (n - 73776) k)) None) None ≡ None
+unfolding within
+none-begun n k b (inl l) = rw (lt-leb 73776 n l) (either-way b None)
+none-begun n k b (inr l) = rw (lt-leb n 73785 l) (by (leb 73776 n) b)
+  where
+    by : (s t : Bool) → cond t (cond (s && false) (Some (Begin (n - 73776) k)) None) None ≡ None
+    by true t = either-way t None
+    by false t = either-way t None
+
+-- a blank, a digit and a blank by their number
+begin-then : (u : List ℕ) (k : ℕ) → Bytes u → begun_by (packed 1 (take 3 u)) k ≡ cond (same_bytes (take 1 u) (32 ∷ [])) (sought Begin (drop 1 u) k) None
+unfolding packed begun_by sought same_bytes is_digit within
+begin-then [] k h = refl
+begin-then (w ∷ []) k h = none-begun ((256 + w) / 256) k (eqb ((256 + w) % 256) 32) (inl (omega (arith, h.0))) ∙ sym (either-way (eqb w 32 && true) None)
+begin-then (w ∷ x ∷ []) k h = none-begun (((256 + w) * 256 + x) / 256) k (eqb (((256 + w) * 256 + x) % 256) 32) (inl (omega (arith, h.0, h.1.0))) ∙ sym (either-way (eqb w 32 && true) None)
+begin-then (w ∷ x ∷ y ∷ u) k h =
+    let e : (((256 + w) * 256 + x) * 256 + y) / 256 ≡ (256 + w) * 256 + x = omega (arith, h.1.1.0) in
+    let f : (((256 + w) * 256 + x) * 256 + y) % 256 ≡ y = omega (arith, h.1.1.0) in
+    rw (e, f) (by (eqb w 32) refl)
+  where
+    digits : (s t : Bool) → leb 48 x ≡ s → leb x 57 ≡ t → w ≡ 32 → cond (within 73776 73785 ((256 + w) * 256 + x)) (Some (Begin ((256 + w) * 256 + x - 73776) k)) None ≡ cond (leb 48 x && leb x 57) (Some (Begin (min 9 (x - 48)) k)) None
+    digits true true p q z =
+        let a = leb-true 48 x p in
+        let b = leb-true x 57 q in
+        let n : (256 + w) * 256 + x - 73776 ≡ min 9 (x - 48) = omega arith in
+        rw (p, q, le-leb 73776 ((256 + w) * 256 + x) (omega arith), le-leb ((256 + w) * 256 + x) 73785 (omega arith), n) refl
+    digits true false p q z =
+        let b = leb-false x 57 q in
+        rw (p, q, lt-leb ((256 + w) * 256 + x) 73785 (omega arith)) (no-and (leb 73776 ((256 + w) * 256 + x)))
+      where
+        no-and : (t : Bool) → cond (t && false) (Some (Begin ((256 + w) * 256 + x - 73776) k)) None ≡ None
+        no-and true = refl
+        no-and false = refl
+    digits false t p q z =
+        let a = leb-false 48 x p in
+        rw (p, lt-leb 73776 ((256 + w) * 256 + x) (omega arith)) refl
+
+    by : (t : Bool) → eqb w 32 ≡ t
+        → cond (eqb y 32) (cond (within 73776 73785 ((256 + w) * 256 + x)) (Some (Begin ((256 + w) * 256 + x - 73776) k)) None) None
+        ≡ cond (eqb w 32 && true) (cond (eqb y 32) (cond (is_digit x) (Some (Begin (min 9 (x - 48)) k)) None) None) None
+    by true z = rw z (ap (λ (l : Option Line). cond (eqb y 32) l None) (digits (leb 48 x) (leb x 57) refl refl (eqb-true w 32 z)))
+    by false z = rw z (none-begun ((256 + w) * 256 + x) k (eqb y 32) (sides (leb w 31) refl))
+      where
+        sides : (t : Bool) → leb w 31 ≡ t → ((256 + w) * 256 + x < 73776) ⊎ (73785 < (256 + w) * 256 + x)
+        sides true p = let a = leb-true w 31 p in inl (omega (arith, h.1.0))
+        sides false p =
+            let a = leb-false w 31 p in
+            let b : w ≡ 32 → ⊥ = eqb-false w 32 z in
+            inr (omega (arith, b))
+
+abbrev begi : List ℕ
+begi = take 5 begin_bytes
+
+abbrev carr : List ℕ
+carr = take 5 carry_bytes
+
+begins-then : (u : List ℕ) → Bytes u → begun_by (packed 1 (take 3 u)) (kept (begi ++ u)) ≡ line_of (begi ++ u)
+unfolding line_of same_bytes
+begins-then u h = begin-then u (kept (begi ++ u)) h
+
+carry_then : (u : List ℕ) → Bytes u → carried_by (packed 1 (take 2 u)) (rest_of (drop 1 u)) ≡ cond (same_bytes (take 1 u) (32 ∷ [])) (given (always Carry) (drop 1 u)) None
+unfolding packed carried_by same_bytes
+carry_then [] h = refl
+carry_then (w ∷ []) h =
+    let e : (256 + w) / 256 ≡ 1 = omega (arith, h.0) in
+    rw e (sym (unfold given is_number in either-way (eqb w 32 && true) None))
+carry_then (w ∷ x ∷ u) h =
+    let e : ((256 + w) * 256 + x) / 256 ≡ 256 + w = omega (arith, h.1.0) in
+    rw e (ap₂ (λ (t : Bool) (l : Option Line). cond t l None) (by (eqb w 32) refl) (number_then Carry (x ∷ u)))
+  where
+    by : (t : Bool) → eqb w 32 ≡ t → eqb (256 + w) 288 ≡ (eqb w 32 && true)
+    by true z = let v = eqb-true w 32 z in rw z (eq-eqb (256 + w) 288 (omega arith))
+    by false z = let v : w ≡ 32 → ⊥ = eqb-false w 32 z in rw z (ne_eqb (256 + w) 288 (λ (q : 256 + w ≡ 288). v (omega arith)))
+
+carries-then : (u : List ℕ) → Bytes u → carried_by (packed 1 (take 2 u)) (rest_of (drop 1 u)) ≡ line_of (carr ++ u)
+unfolding line_of same_bytes
+carries-then u h = carry_then u h
+
 differ : (s t : List ℕ) → (s ≡ t → ⊥) → same_bytes s t ≡ false
 differ s t n = by (same_bytes s t) refl
   where
@@ -428,11 +556,6 @@ words-then [] = refl
 words-then (b ∷ u) = by_number (always Word) (is_number (b ∷ u)) (eqb b 116 && same_bytes u []) (worth 0 (b ∷ u))
 
 -- `run ` by the head, which has one byte more
-run-then : (u : List ℕ) → numbered (always Run) (rest_of u) ≡ given (always Run) u
-unfolding rest_of given is_number same_bytes
-run-then [] = refl
-run-then (b ∷ u) = by_number (always Run) (is_number (b ∷ u)) (eqb b 116 && same_bytes u []) (worth 0 (b ∷ u))
-
 head-low : (n : ℕ) (e : Rest) → n < full → ran_by n e ≡ None
 unfolding ran_by
 head-low n e l = rw (ne_eqb (n / 256) run_head (λ (q : n / 256 ≡ run_head). omega arith)) refl
@@ -469,7 +592,7 @@ runs_then (four {a} {b} {c} {d}) h =
 runs_then (five {a} {b} {c} {d} {e = x} {s = u}) h =
     unfold ran_by in
     let q : (((((256 + a) * 256 + b) * 256 + c) * 256 + d) * 256 + x) / 256 ≡ (((256 + a) * 256 + b) * 256 + c) * 256 + d = omega (arith, h.1.1.1.1.0) in
-    ap₂ (λ (t : Bool) (l : Option Line). cond t l None) (ap (λ (n : ℕ). eqb n run_head) q ∙ four_same a b c d h.0 h.1.0 h.1.1.0 h.1.1.1.0) (run-then (x ∷ u))
+    ap₂ (λ (t : Bool) (l : Option Line). cond t l None) (ap (λ (n : ℕ). eqb n run_head) q ∙ four_same a b c d h.0 h.1.0 h.1.1.0 h.1.1.1.0) (number_then Run (x ∷ u))
 
 module _ {s : List ℕ} {r : Reading} (h : Reads s r) where
   word : (w : ℕ) (t : List ℕ) → Bytes t → length t ≡ 5 → full ≤ w → packed 1 t ≡ w → r.head ≡ w → s ≡ t ++ drop 5 s
@@ -561,9 +684,21 @@ module _ {s : List ℕ} {r : Reading} (h : Reads s r) where
       let w = word seek_head seek_bytes (omega arith, (omega arith, (omega arith, (omega arith, (omega arith, tt))))) refl (omega arith) refl e in
       f ∙ ap₂ sought_by h.after (h.kept ∙ ap kept w) ∙ seeks-then (drop 5 s) (bytes_drop 5 s h.bytes) ∙ ap line_of (sym w)
 
-  -- a word of seven bytes has its first five
-  first-five : (t : List ℕ) → take 7 s ≡ t → take 5 s ≡ take 5 t
-  first-five t e = sym (take-take 5 7 s (omega arith)) ∙ ap (take 5) e
+  pub says-begin : {x : Option Line} → r.head ≡ begin_head → x ≡ begun_by r.further r.kept → x ≡ line_of s
+  unfolding packed further_of
+  says-begin e f =
+      let w = word begin_head begi (omega arith, (omega arith, (omega arith, (omega arith, (omega arith, tt))))) refl (omega arith) refl e in
+      f ∙ ap₂ begun_by h.further (h.kept ∙ ap kept w) ∙ begins-then (drop 5 s) (bytes_drop 5 s h.bytes) ∙ ap line_of (sym w)
+
+  pub says-carry : {x : Option Line} → r.head ≡ carry_head → x ≡ carried_by r.after r.mid → x ≡ line_of s
+  unfolding packed after_of
+  says-carry e f =
+      let w = word carry_head carr (omega arith, (omega arith, (omega arith, (omega arith, (omega arith, tt))))) refl (omega arith) refl e in
+      f ∙ ap₂ carried_by h.after (h.mid ∙ ap (λ (u : List ℕ). rest_of (drop 6 u)) w) ∙ carries-then (drop 5 s) (bytes_drop 5 s h.bytes) ∙ ap line_of (sym w)
+
+  -- a word of more bytes has its first five
+  first-five : (n : ℕ) (t : List ℕ) → 5 ≤ n → take n s ≡ t → take 5 s ≡ take 5 t
+  first-five n t l e = sym (take-take 5 n s l) ∙ ap (take 5) e
 
   pub says-word : {x : Option Line} → r.head ≡ word_head → x ≡ numbered (always Word) r.rest → x ≡ line_of s
   unfolding packed
@@ -572,9 +707,9 @@ module _ {s : List ℕ} {r : Reading} (h : Reads s r) where
       f ∙ ap (numbered (always Word)) h.rest ∙ words-then (drop 5 s) ∙ ap line_of (sym w)
 
   pub says-run : {x : Option Line} → (r.head ≡ list_head → ⊥) → (r.head ≡ state_head → ⊥) → (r.head ≡ report_head → ⊥) → (r.head ≡ open_head → ⊥) → (r.head ≡ step_head → ⊥) → (r.head ≡ save_head → ⊥) → (r.head ≡ return_head → ⊥) → (r.head ≡ forget_head → ⊥)
-      → (r.head ≡ time_head → ⊥) → (r.head ≡ wait_head → ⊥) → (r.head ≡ clock_head → ⊥) → (r.head ≡ indep_head → ⊥) → (r.head ≡ steady_head → ⊥) → (r.head ≡ seek_head → ⊥) → (r.head ≡ word_head → ⊥) → x ≡ ran_by r.head r.early → x ≡ line_of s
+      → (r.head ≡ time_head → ⊥) → (r.head ≡ wait_head → ⊥) → (r.head ≡ clock_head → ⊥) → (r.head ≡ indep_head → ⊥) → (r.head ≡ steady_head → ⊥) → (r.head ≡ seek_head → ⊥) → (r.head ≡ word_head → ⊥) → (r.head ≡ begin_head → ⊥) → (r.head ≡ carry_head → ⊥) → x ≡ ran_by r.head r.early → x ≡ line_of s
   unfolding line_of head_of packed
-  says-run l t q o p v m g i j k z y x w f =
+  says-run l t q o p v m g i j k z y x w c d f =
       f ∙ ap₂ ran_by h.head h.early ∙ runs_then (size s) h.bytes ∙ sym no_other
     where
       no_other : line_of s ≡ cond (same_bytes (take 4 s) run_bytes) (given (always Run) (drop 4 s)) None
@@ -583,17 +718,19 @@ module _ {s : List ℕ} {r : Reading} (h : Reads s r) where
         differ s state_bytes (λ e. t (h.head ∙ ap head_of e)),
         differ s report_bytes (λ e. q (h.head ∙ ap head_of e)),
         differ (take 5 s) open_bytes (λ e. o (h.head ∙ ap (packed 1) e)),
-        differ (take 7 s) steady_bytes (λ e. y (h.head ∙ ap (packed 1) (first-five steady_bytes e))),
+        differ (take 7 s) steady_bytes (λ e. y (h.head ∙ ap (packed 1) (first-five 7 steady_bytes (omega arith) e))),
         differ (take 5 s) step_bytes (λ e. p (h.head ∙ ap (packed 1) e)),
         differ (take 5 s) save_bytes (λ e. v (h.head ∙ ap (packed 1) e)),
-        differ (take 7 s) return_bytes (λ e. m (h.head ∙ ap (packed 1) (first-five return_bytes e))),
-        differ (take 7 s) forget_bytes (λ e. g (h.head ∙ ap (packed 1) (first-five forget_bytes e))),
+        differ (take 7 s) return_bytes (λ e. m (h.head ∙ ap (packed 1) (first-five 7 return_bytes (omega arith) e))),
+        differ (take 7 s) forget_bytes (λ e. g (h.head ∙ ap (packed 1) (first-five 7 forget_bytes (omega arith) e))),
         differ (take 5 s) time_bytes (λ e. i (h.head ∙ ap (packed 1) e)),
         differ (take 5 s) wait_bytes (λ e. j (h.head ∙ ap (packed 1) e)),
         differ s clock_bytes (λ e. k (h.head ∙ ap head_of e)),
         no_word s (λ e. z (h.head ∙ ap (packed 1) e)),
         differ (take 5 s) seek_bytes (λ e. x (h.head ∙ ap (packed 1) e)),
         differ (take 5 s) word_bytes (λ e. w (h.head ∙ ap (packed 1) e)),
+        differ (take 6 s) begin_bytes (λ e. c (h.head ∙ ap (packed 1) (first-five 6 begin_bytes (omega arith) e))),
+        differ (take 6 s) carry_bytes (λ e. d (h.head ∙ ap (packed 1) (first-five 6 carry_bytes (omega arith) e))),
       )
 
 -- what a rest makes of a line that wants a number, as the code joins it

@@ -5,13 +5,13 @@ use mathlib.Core.Option.{some}
 use native.Mathlib.Nat.{mod-add-mod}
 use Rattle.token.specs.Bytes.{line_feed}
 use Rattle.lines.specs.declared.line.Line.{Line}
-use Rattle.lines.specs.declared.line.Line.TheVariants.{Open, Steady, List as Listing, Step, State, Report, Save, Return, Forget, Time, Wait, Clock, Independent, Search, Word, Run}
+use Rattle.lines.specs.declared.line.Line.TheVariants.{Open, Steady, List as Listing, Step, State, Report, Save, Return, Forget, Time, Wait, Clock, Independent, Search, Word, Run, Begin, Carry}
 use Rattle.lines.specs.declared.line.Reading.{Reading}
 use Rattle.lines.specs.declared.script.Part.TheVariants.{InLine, InText}
 use Rattle.lines.specs.declared.script.Taken.{Taken}
 use Rattle.lines.specs.Limit.{limit}
 use Rattle.lines.specs.Two.{run}
-use Rattle.lines.specs.Line.{line_of, empty, rest_of, packed, head_of, after_of, kept, Reads}
+use Rattle.lines.specs.Line.{line_of, empty, rest_of, packed, head_of, after_of, further_of, kept, Reads}
 use Rattle.lines.proofs.Heads.{none_read, some_read}
 use Rattle.lines.specs.Script.{breaks, number_after, is_short, text_of, Items, LineBegun, TextBegun, Stands, Misplaced, Takes, Cut, next, fresh, ended}
 
@@ -45,8 +45,8 @@ after-other s b line n h = h ∙ same_number s (s ++ (b ∷ [])) (let e = breaks
 
 -- ---- no byte of a line
 empty-reads : Reads [] empty
-unfolding head_of packed rest_of after_of kept run
-empty-reads = record { bytes = tt; head = refl; early = refl; rest = refl; after = refl; late = refl; kept = refl; two = refl }
+unfolding head_of packed rest_of after_of further_of kept run
+empty-reads = record { bytes = tt; head = refl; early = refl; rest = refl; after = refl; mid = refl; late = refl; further = refl; kept = refl; two = refl }
 
 no-breaks : breaks [] ≡ 0
 unfolding breaks
@@ -129,6 +129,8 @@ module _ {s : List ℕ} {qs : List Line} {from : ℕ} {r : Reading} (x : LineBeg
   ends_so (Search d n) e h = line-short e h refl
   ends_so (Word w) e h = line-short e h refl
   ends_so (Run n) e h = line-short e h refl
+  ends_so (Begin d n) e h = line-short e h refl
+  ends_so (Carry n) e h = line-short e h refl
 
   pub line-ends : {l : Line} {y : Taken} → b ≡ line_feed → line_of x.line ≡ Some l → y ≡ ended from l → Takes s qs b (Ok y)
   line-ends {l} e h t = subst (λ (z : Taken). Takes s qs b (Ok z)) (sym t) (ends_so l e h)

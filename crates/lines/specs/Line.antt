@@ -5,7 +5,7 @@ use Rattle.word.specs.Number.{worth, digit_of}
 use Rattle.token.specs.Bytes.{within, is_digit}
 use Rattle.token.specs.Token.{same_bytes}
 use Rattle.lines.specs.declared.line.Line.{Line}
-use Rattle.lines.specs.declared.line.Line.TheVariants.{Open, Steady, List as Listing, Step, State, Report, Save, Return, Forget, Time, Wait, Clock, Independent, Search, Word, Run}
+use Rattle.lines.specs.declared.line.Line.TheVariants.{Open, Steady, List as Listing, Step, State, Report, Save, Return, Forget, Time, Wait, Clock, Independent, Search, Word, Run, Begin, Carry}
 use Rattle.lines.specs.declared.line.Rest.{Rest}
 use Rattle.lines.specs.declared.line.Rest.TheVariants.{Nothing, Number, T, Other}
 use Rattle.lines.specs.declared.line.Reading.{Reading}
@@ -54,7 +54,7 @@ clock_bytes = 99 ∷ 108 ∷ 111 ∷ 99 ∷ 107 ∷ []
 
 -- how many bytes of a line are kept: all, up to a word and a name that is too long already
 abbrev pub kept_limit : ℕ
-kept_limit = 24
+kept_limit = 25
 
 unfoldable pub kept : List ℕ → ℕ
 kept s = min kept_limit (length s)
@@ -72,6 +72,13 @@ word_bytes = 119 ∷ 111 ∷ 114 ∷ 100 ∷ 32 ∷ []
 
 abbrev pub run_bytes : List ℕ
 run_bytes = 114 ∷ 117 ∷ 110 ∷ 32 ∷ []
+
+-- `begin ` and `carry `
+abbrev pub begin_bytes : List ℕ
+begin_bytes = 98 ∷ 101 ∷ 103 ∷ 105 ∷ 110 ∷ 32 ∷ []
+
+abbrev pub carry_bytes : List ℕ
+carry_bytes = 99 ∷ 97 ∷ 114 ∷ 114 ∷ 121 ∷ 32 ∷ []
 
 -- digits and nothing else
 unfoldable pub digits_only : List ℕ → Bool
@@ -109,12 +116,12 @@ unfoldable pub small : ℕ → Option Line
 small n = cond (nat_lt n 65536) (Some (Wait n)) None
 
 -- a depth of one digit and a blank, and a line of which so many bytes are kept
-unfoldable pub sought : List ℕ → ℕ → Option Line
-sought [] k = None
-sought (d ∷ []) k = None
-sought (d ∷ b ∷ s) k = cond (b == 32) (cond (is_digit d) (Some (Search (digit_of d) k)) None) None
+unfoldable pub sought : (says : ℕ → ℕ → Line) → List ℕ → ℕ → Option Line
+sought says [] k = None
+sought says (d ∷ []) k = None
+sought says (d ∷ b ∷ s) k = cond (b == 32) (cond (is_digit d) (Some (says (digit_of d) k)) None) None
 
--- the sixteen forms; every other line says nothing
+-- the eighteen forms; every other line says nothing
 unfoldable pub line_of : List ℕ → Option Line
 line_of s =
     cond (same_bytes s list_bytes) (Some Listing)
@@ -130,9 +137,11 @@ line_of s =
     (cond (same_bytes (take 5 s) wait_bytes) (given small (drop 5 s))
     (cond (same_bytes s clock_bytes) (Some Clock)
     (cond (same_bytes (take 12 s) independent_bytes) (given_two (drop 12 s))
-    (cond (same_bytes (take 5 s) seek_bytes) (sought (drop 5 s) (kept s))
+    (cond (same_bytes (take 5 s) seek_bytes) (sought Search (drop 5 s) (kept s))
     (cond (same_bytes (take 5 s) word_bytes) (given (always Word) (drop 5 s))
-    (cond (same_bytes (take 4 s) run_bytes) (given (always Run) (drop 4 s)) None)))))))))))))))
+    (cond (same_bytes (take 6 s) begin_bytes) (sought Begin (drop 6 s) (kept s))
+    (cond (same_bytes (take 6 s) carry_bytes) (given (always Carry) (drop 6 s))
+    (cond (same_bytes (take 4 s) run_bytes) (given (always Run) (drop 4 s)) None)))))))))))))))))
 
 -- `step 307`
 step_line : line_of (115 ∷ 116 ∷ 101 ∷ 112 ∷ 32 ∷ 51 ∷ 48 ∷ 55 ∷ []) ≡ Some (Step 307)
@@ -193,6 +202,16 @@ word-lines = (refl, refl)
 run-lines : (line_of (run_bytes ++ (49 ∷ 48 ∷ [])) ≡ Some (Run 10)) × ((line_of run_bytes ≡ None) × (line_of (take 3 run_bytes) ≡ None))
 unfolding line_of given is_number digits_only is_digit Rattle.token.specs.Bytes.within same_bytes worth
 run-lines = (refl, (refl, refl))
+
+-- `begin 3 a`, `begin 3`, `begin 10 a`
+begin-lines : (line_of (begin_bytes ++ (51 ∷ 32 ∷ 97 ∷ [])) ≡ Some (Begin 3 9)) × ((line_of (begin_bytes ++ (51 ∷ [])) ≡ None) × (line_of (begin_bytes ++ (49 ∷ 48 ∷ 32 ∷ 97 ∷ [])) ≡ None))
+unfolding line_of sought kept is_digit Rattle.token.specs.Bytes.within same_bytes
+begin-lines = (refl, (refl, refl))
+
+-- `carry 10`, `carry ` and `carry`
+carry-lines : (line_of (carry_bytes ++ (49 ∷ 48 ∷ [])) ≡ Some (Carry 10)) × ((line_of carry_bytes ≡ None) × (line_of (take 5 carry_bytes) ≡ None))
+unfolding line_of given is_number digits_only is_digit Rattle.token.specs.Bytes.within same_bytes worth
+carry-lines = (refl, (refl, refl))
 
 -- `open` without a number
 no_number : line_of open_bytes ≡ None
@@ -267,9 +286,19 @@ lettered says Other = None
 unfoldable pub after_of : List ℕ → ℕ
 after_of s = packed 1 (take 2 (drop 5 s))
 
--- the least number of two bytes, and the ends of `return `, `forget ` and `steady `
+-- the first three, likewise
+unfoldable pub further_of : List ℕ → ℕ
+further_of s = packed 1 (take 3 (drop 5 s))
+
+-- the least numbers of one byte, of two and of three, and the ends of `return `, `forget ` and `steady `
+abbrev pub one_byte : ℕ
+one_byte = 256
+
 abbrev pub two_bytes : ℕ
 two_bytes = 65536
+
+abbrev pub three_bytes : ℕ
+three_bytes = 16777216
 
 abbrev pub return_end : ℕ
 return_end = 93728
@@ -280,8 +309,13 @@ forget_end = 95264
 abbrev pub steady_end : ℕ
 steady_end = 96544
 
-unfoldable pub after_next : ℕ → ℕ → ℕ
-after_next a b = cond (nat_lt a two_bytes) (a * 256 + b) a
+-- bytes with one more, up to the number of them whose least number is this
+unfoldable pub bytes_next : (full : ℕ) → ℕ → ℕ → ℕ
+bytes_next full a b = cond (nat_lt a full) (a * 256 + b) a
+
+-- what stands after the first six bytes with one more byte, from the two after the first five before it
+unfoldable pub mid_next : ℕ → Rest → ℕ → Rest
+mid_next a r b = cond (nat_lt a one_byte) r (rest_next r b)
 
 -- what stands after the first seven bytes with one more byte, from the two before them
 unfoldable pub late_next : ℕ → Rest → ℕ → Rest
@@ -313,6 +347,14 @@ ended says end after k = cond (after == end) (Some (says k)) None
 unfoldable pub steadied : ℕ → Rest → Option Line
 steadied after late = cond (after == steady_end) (numbered (always Steady) late) None
 
+-- a line whose word ends with its sixth byte, a blank, and what stands after it
+unfoldable pub carried_by : ℕ → Rest → Option Line
+carried_by after mid = cond (after / 256 == 288) (numbered (always Carry) mid) None
+
+-- a line that has a digit and a blank after these six bytes
+unfoldable pub begun_by : ℕ → ℕ → Option Line
+begun_by further k = cond (further % 256 == 32) (cond (within 73776 73785 (further / 256)) (Some (Begin (further / 256 - 73776) k)) None) None
+
 -- a line whose word ends with its fifth byte, and that has a digit and a blank after it
 unfoldable pub sought_by : ℕ → ℕ → Option Line
 sought_by after k = cond (after % 256 == 32) (cond (within 304 313 (after / 256)) (Some (Search (after / 256 - 304) k)) None) None
@@ -328,10 +370,12 @@ pub record Reads (s : List ℕ) (r : Reading) : Type 0 where
   pub early : r.early ≡ rest_of (drop 4 s)
   pub rest : r.rest ≡ rest_of (drop 5 s)
   pub after : r.after ≡ after_of s
+  pub mid : r.mid ≡ rest_of (drop 6 s)
   pub late : r.late ≡ rest_of (drop 7 s)
+  pub further : r.further ≡ further_of s
   pub kept : r.kept ≡ kept s
   pub two : r.two ≡ run begun (drop 5 s)
 
 -- no byte yet
 abbrev pub empty : Reading
-empty = record { head = 1; early = Nothing; rest = Nothing; after = 1; late = Nothing; kept = 0; two = begun }
+empty = record { head = 1; early = Nothing; rest = Nothing; after = 1; mid = Nothing; late = Nothing; further = 1; kept = 0; two = begun }

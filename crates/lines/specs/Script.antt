@@ -3,7 +3,7 @@ use Rattle.std.specs.Prelude.{◌≡◌, ℕ, ◌+◌, ◌%◌, ◌<◌, ◌≤�
 use Rattle.std.proofs.Math.Option.{Option, none as nothing, some}
 use Rattle.token.specs.Bytes.{line_feed}
 use Rattle.lines.specs.declared.line.Line.{Line}
-use Rattle.lines.specs.declared.line.Line.TheVariants.{Open, Steady, List as Listing, Step, State, Report, Save, Return, Forget, Time, Wait, Clock, Independent, Search, Word, Run}
+use Rattle.lines.specs.declared.line.Line.TheVariants.{Open, Steady, List as Listing, Step, State, Report, Save, Return, Forget, Time, Wait, Clock, Independent, Search, Word, Run, Begin, Carry}
 use Rattle.lines.specs.declared.line.Reading.{Reading}
 use Rattle.lines.specs.declared.script.Part.{Part}
 use Rattle.lines.specs.declared.script.Part.TheVariants.{InLine, InText}
@@ -41,6 +41,8 @@ is_short (Independent i j) = true
 is_short (Search d n) = true
 is_short (Word w) = true
 is_short (Run n) = true
+is_short (Begin d n) = true
+is_short (Carry n) = true
 
 -- how many bytes of a text a line asks for
 abbrev pub text_of : Line → Option ℕ
@@ -60,6 +62,8 @@ text_of (Independent i j) = nothing
 text_of (Search d n) = nothing
 text_of (Word w) = nothing
 text_of (Run n) = nothing
+text_of (Begin d n) = nothing
+text_of (Carry n) = nothing
 
 -- bytes that are whole items: such a line and LF, or a line `open n` or `steady n`, LF, n bytes and LF; and what they ask for in turn
 pub data Items : List ℕ → List Line → Type 0 where
@@ -149,3 +153,5 @@ ended line (Independent i j) = Asks (Independent i j) (fresh (next line))
 ended line (Search d n) = Asks (Search d n) (fresh (next line))
 ended line (Word w) = Asks (Word w) (fresh (next line))
 ended line (Run n) = Asks (Run n) (fresh (next line))
+ended line (Begin d n) = Asks (Begin d n) (fresh (next line))
+ended line (Carry n) = Asks (Carry n) (fresh (next line))

@@ -1,6 +1,7 @@
 // A line of a script, read byte by byte, however long it is.
 ghost use Rattle.std.specs.Prelude.{◌≡◌, ℕ, cond, nat_lt, List, [], ◌∷◌, ◌++◌, None};
-ghost use Rattle.lines.specs.Line.{line_of, digit_next, letter_next, rest_next, number_in, small, sought_by, after_next, kept_next, empty, Reads};
+ghost use Rattle.std.specs.Prelude.{◌≤◌};
+ghost use Rattle.lines.specs.Line.{line_of, digit_next, letter_next, rest_next, number_in, small, sought_by, begun_by, bytes_next, three_bytes, kept_next, empty, Reads};
 
 use crate::bytes;
 use crate::bytes::ByteByByte;
@@ -27,9 +28,12 @@ pub enum Line {
     Search(u64, u64),
     Word(u64),
     Run(u64),
+    // A depth, and how many bytes of the line are kept.
+    Begin(u64, u64),
+    Carry(u64),
 }
 
-// What stands after a line's first bytes, which are four, five or seven (Reading); `T` is the last byte of `report`.
+// What stands after a line's first bytes, which are four to seven (Reading); `T` is the last byte of `report`.
 // `Other`, not an Option of the rest: a line is read on to its end whatever stands in it, so that each byte would take the Option apart and make it again.
 #[derive(Clone, Copy)]
 pub enum Rest {
@@ -51,14 +55,16 @@ impl Rest {
     }
 }
 
-// A line so far: its first five bytes, as digits of base 256 after a 1, what stands after the first four, what stands after all five, the first two bytes of that, likewise, what stands after these, how many bytes of the line are kept, and what stands after the first five as a word and two numbers.
+// A line so far: its first five bytes, as digits of base 256 after a 1, what stands after the first four, what stands after all five, the first two bytes of that, likewise, what stands after the first of them and after both, the first three bytes, how many bytes of the line are kept, and what stands after the first five as a word and two numbers.
 #[derive(Clone, Copy)]
 pub struct Reading {
     pub head: u64,
     pub early: Rest,
     pub rest: Rest,
     pub after: u64,
+    pub mid: Rest,
     pub late: Rest,
+    pub further: u64,
     pub kept: u64,
     pub two: Two,
 }
@@ -75,9 +81,9 @@ impl Head {
     pub const FULL: u64 = 0x100_0000_0000;
 
     // The most bytes of a line that are kept: a word and a name that is too long already.
-    pub const KEPT: u64 = 24;
+    pub const KEPT: u64 = 25;
 
-    // The heads of `list`, `state`, `report`, `open `, `step `, `save `, `return `, `forget `, `time `, `wait `, `clock`, `independent `, `steady `, `seek ` and `word `, and what follows those of `return `, `forget ` and `steady `.
+    // The heads of `list`, `state`, `report`, `open `, `step `, `save `, `return `, `forget `, `time `, `wait `, `clock`, `independent `, `steady `, `seek `, `word `, `begin ` and `carry `, and what follows those of `return `, `forget ` and `steady `.
     pub const LIST: u64 = 0x1_6c69_7374;
 
     pub const STATE: u64 = 0x173_7461_7465;
@@ -108,6 +114,10 @@ impl Head {
 
     pub const WORD: u64 = 0x177_6f72_6420;
 
+    pub const BEGIN: u64 = 0x162_6567_696e;
+
+    pub const CARRY: u64 = 0x163_6172_7279;
+
     // The least head of four bytes, and that of `run `.
     pub const FOUR: u64 = 0x1_0000_0000;
 
@@ -116,8 +126,12 @@ impl Head {
     // A waiting draw is below this.
     pub const DRAWS: u64 = 0x1_0000;
 
-    // The least number of two bytes.
+    // The least numbers of one byte, of two and of three.
+    pub const ONE: u64 = 0x100;
+
     pub const TWO: u64 = 0x1_0000;
+
+    pub const THREE: u64 = 0x100_0000;
 
     pub const RETURN_END: u64 = 0x1_6e20;
 
@@ -129,6 +143,13 @@ impl Head {
     pub const ZERO: u64 = 0x130;
 
     pub const NINE: u64 = 0x139;
+
+    // The same after a blank, and a blank after a 1.
+    pub const PARTED_ZERO: u64 = 0x1_2030;
+
+    pub const PARTED_NINE: u64 = 0x1_2039;
+
+    pub const PARTED: u64 = 0x120;
 
     pub const BLANK: u64 = 0x20;
 }
@@ -182,14 +203,31 @@ fn seek_line(after: u64, kept: u64) -> Option<Line>
     }
 }
 
-// The two bytes after the first five, with one more byte.
-fn next_after(after: u64, b: u8) -> u64
-    ensures { result ≡ after_next after b }
+// A blank, a digit and a blank after the first five bytes.
+fn begin_line(further: u64, kept: u64) -> Option<Line>
+    ensures { result ≡ begun_by further kept }
 {
-    if after < Head::TWO {
-        return after * 256 + u64::from(b);
+    if further % 256 != Head::BLANK {
+        return None;
     }
-    after
+    let digit = further / 256;
+    match digit {
+        Head::PARTED_ZERO..=Head::PARTED_NINE => {
+            Some(Line::Begin(digit - Head::PARTED_ZERO, kept))
+        }
+        _ => None,
+    }
+}
+
+// Bytes with one more byte, up to the number of them whose least number is `full`.
+fn next_bytes(read: u64, full: u64, b: u8) -> u64
+    requires { full ≤ three_bytes }
+    ensures { result ≡ bytes_next full read b }
+{
+    if read < full {
+        return read * 256 + u64::from(b);
+    }
+    read
 }
 
 // A rest with one more byte, once the bytes before it are there: `read`, which has those so far after a 1, is then `least` or more.
@@ -218,7 +256,9 @@ impl Reading {
             early: Rest::Nothing,
             rest: Rest::Nothing,
             after: Head::EMPTY,
+            mid: Rest::Nothing,
             late: Rest::Nothing,
+            further: Head::EMPTY,
             kept: 0,
             two: Two::Word(0),
         }
@@ -241,8 +281,10 @@ impl Reading {
         Reading {
             early,
             rest: bytes::with_byte(self.rest, b),
-            after: next_after(self.after, b),
+            after: next_bytes(self.after, Head::TWO, b),
+            mid: next_rest(self.after, Head::ONE, self.mid, b),
             late: next_rest(self.after, Head::TWO, self.late, b),
+            further: next_bytes(self.further, Head::THREE, b),
             kept,
             two: bytes::with_byte(self.two, b),
             ..self
@@ -258,7 +300,9 @@ impl Reading {
             early,
             rest,
             after,
+            mid,
             late,
+            further,
             kept,
             two,
         } = self;
@@ -278,6 +322,8 @@ impl Reading {
             Head::STEADY => number_if(after == Head::STEADY_END, late).map(Line::Steady),
             Head::SEEK => seek_line(after, kept),
             Head::WORD => rest.number().map(Line::Word),
+            Head::BEGIN => begin_line(further, kept),
+            Head::CARRY => number_if(after / 256 == Head::PARTED, mid).map(Line::Carry),
             // The head has one byte more than this word.
             _ => number_if(head / 256 == Head::RUN, early).map(Line::Run),
         }

@@ -5,7 +5,7 @@ use mathlib.Core.List.{List, []}
 use mathlib.Core.Bool.{Bool, true, false, cond, ◌&&◌}
 use mathlib.Core.Logic.{◌↔◌, inl, inr}
 use mathlib.Core.Option.{Option, none, some, Option-elim}
-use Prim.Native.Nat.{ℕ, ◌≤◌}
+use Prim.Native.Nat.{ℕ, ◌+◌, ◌≤◌}
 use native.Mathlib.Omega.{arith}
 use borrow.Author.Tests.{leb-true}
 use lib.Dec.{leb, ltb}
@@ -13,6 +13,8 @@ use lib.ListN.{length}
 use Rattle.runs.specs.Tree as tree
 use Rattle.runs.specs.Tree.{Means, earliest, none_at_all, none-known}
 use Rattle.runs.specs.Walk as walk
+use Rattle.runs.specs.Marks.{Going, going, gone, carry_on}
+use Rattle.runs.proofs.Marks.{CountsTo, counts, counts-gone, counts-within, carry-counts}
 use Rattle.runs.proofs.Judged as judged
 use Rattle.clock.specs.declared.Clock.{Clock}
 use Rattle.model.specs.Resolved
@@ -28,12 +30,12 @@ use Rattle.rules.proofs.Decides.{Decides, holds, fails, passes}
 use Rattle.machine.specs.State.{State}
 use Rattle.machine.specs.Timed.{Timed, timed}
 use Rattle.machine.specs.Saves.{is_name, Saves, save_limit, place_of, place_for, kept_under, Stored, stored, replaced, removed, saving, returning, forgetting}
-use Rattle.machine.specs.Machine.{as_lent, no, listed_as, reported_as, Listed, entries_are, refused_with, listing, Turn, turn, drawn, steps_in, times_with, ran_as, runs_over, showing, lists, sharing, reports, choosing, steps_with, found_as, moves_to, depth_limit, is_depth, searched_as, searches}
-use Rattle.machine.specs.Machine.{Held, moved, moved_in, timed_of, stored_in, Machine, closed, holding, on_state, on_clock, on_saves, Request, list', step', report', search', timed', run', save', return', forget', Ask, open', open_steady', on', acts, Part, has_lengths, Call, call, opens, on_machine, asked_of_machine, calls}
+use Rattle.machine.specs.Machine.{as_lent, no, listed_as, reported_as, Listed, entries_are, refused_with, listing, Turn, turn, drawn, steps_in, times_with, ran_as, runs_over, showing, lists, sharing, reports, choosing, steps_with, found_as, moves_to, depth_limit, is_depth, searched_as, searches, Search, moves_by, count_limit, progress_as, ended_as, carried_as, begins, carries_by}
+use Rattle.machine.specs.Machine.{Held, moved, moved_in, timed_of, stored_in, Machine, closed, holding, on_state, on_clock, on_saves, Request, list', step', report', search', timed', run', save', return', forget', Ask, open', open_steady', on', acts, Part, has_lengths, Call, call, opens, on_machine, asked_of_machine, calls, searched_in, on_search, begin', carry'}
 use Rattle.machine.specs.Questions.{no12, no13, no14, yes14, Steps, no15, no16, no17, no18, no19, yes19, Times, no15-19, no23, no24, no25, yes25}
 use Rattle.machine.specs.Questions as questions
 use Rattle.machine.specs.Results as results
-use Rattle.machine.specs.Results.{Runs, Lists, Chooses, Names, Whole, WholeAsk, RunEnds, unrefused, refused12-15, refused17-19, refused23-25, Lent, Carries, under1, under2-10, under11, under12, under13, under14, under15-19, under23-25, under20, return21, forget21, save22, under2-29, under26, under27}
+use Rattle.machine.specs.Results.{Runs, Lists, Chooses, Names, Whole, WholeAsk, RunEnds, unrefused, refused12-15, refused17-19, refused23-25, Lent, Carries, under1, under2-10, under11, under12, under13, under14, under15-19, under23-25, under20, return21, forget21, save22, under2-29, under26, under27, begin26, under-way, ended27, under28}
 use Rattle.machine.proofs.Lent.{lent-so}
 use Rattle.machine.proofs.Listing as listing
 use Rattle.machine.proofs.Stepping as stepping
@@ -43,7 +45,7 @@ use Rattle.machine.proofs.Running.{run-carries}
 -- what a turn from x by a request carries, when it leaves x, and that it is not answered as 1 or 11 are
 record Kept {M : Type 0} (x : M) (r : Request) (t : Turn M) : Type 0 where
   carries : Carries (on' r) t.answer
-  stays : Whole r → (t.answer.number ≡ 0 → ⊥) → t.machine ≡ x
+  stays : Whole r t.answer.number → (t.answer.number ≡ 0 → ⊥) → t.machine ≡ x
   one : t.answer.number ≡ 1 → ⊥
   eleven : t.answer.number ≡ 11 → ⊥
 
@@ -197,6 +199,41 @@ saves-kept r f h k = record {
   eleven = k.eleven;
 }
 
+-- 02, note 10: a search is begun
+begin-kept : (x : List ℕ) (d : ℕ) (m : Resolved.Model) (s : State) (o : Option Search) → Kept o (begin' x d) (begins x d m s o)
+unfolding begins no
+begin-kept x d m s o = by _ (is_depth d)
+  where
+    -- whichever search it is
+    by : (y : Option Search) (b : Bool) → Kept o (begin' x d) (cond b (turn y (no 0 0 0 as_lent)) (turn o (no 26 0 0 as_lent)))
+    by y true = record { carries = results.begins; stays = λ w n. absurd (n refl); one = λ e. omega arith; eleven = λ e. omega arith }
+    by y false = record { carries = begin26; stays = λ w n. refl; one = λ e. omega arith; eleven = λ e. omega arith }
+
+-- 02, note 10: and carried on
+carried-kept : (n : ℕ) (x : Search) (y : Going) → CountsTo count_limit y → Kept (some x) (carry' n) (carried_as x y)
+unfolding carried_as ended_as progress_as Whole
+carried-kept n x (going c p) (counts l) = record { carries = under-way c l; stays = λ w z. absurd (z refl); one = λ e. omega arith; eleven = λ e. omega arith }
+carried-kept n x (gone c (tree.found r)) (counts-gone l) = record { carries = results.ended c r l; stays = λ w z. absurd (z refl); one = λ e. omega arith; eleven = λ e. omega arith }
+carried-kept n x (gone c tree.nothing) (counts-gone l) = record { carries = results.ended c [] l; stays = λ w z. absurd (z refl); one = λ e. omega arith; eleven = λ e. omega arith }
+carried-kept n x (gone c tree.unsure) (counts-gone l) = record { carries = ended27 c l; stays = λ w z. absurd (w refl); one = λ e. omega arith; eleven = λ e. omega arith }
+
+carry-kept : (n : ℕ) (m : Resolved.Model) (o : Option Search) → Kept o (carry' n) (carries_by n m o)
+unfolding carries_by no Whole
+carry-kept n m none = record { carries = under28; stays = λ w z. refl; one = λ e. omega arith; eleven = λ e. omega arith }
+carry-kept n m (some x) = by (leb (x.count + n) count_limit) refl
+  where
+    y : Going
+    y = carry_on (moves_by m x.wait) x.start x.depth n (going x.count x.mark)
+
+    by : (b : Bool) → leb (x.count + n) count_limit ≡ b → Kept (some x) (carry' n) (cond b (carried_as x y) (turn (some x) (no 28 0 0 as_lent)))
+    by true e = carried-kept n x y (counts-within (leb-true (x.count + n) count_limit e) (carry-counts (moves_by m x.wait) x.start x.depth n x.count x.mark))
+    by false e = record { carries = under28; stays = λ w z. refl; one = λ e. omega arith; eleven = λ e. omega arith }
+
+-- one that turns the search
+searching-kept : (r : Request) (f : Resolved.Model → State → Option Search → Turn (Option Search)) (h : Held) → Kept h.search r (f h.model h.state h.search) → Kept h r (on_search f h)
+unfolding on_search
+searching-kept r f h k = record { carries = k.carries; stays = λ w n. ap (searched_in h) (k.stays w n); one = k.one; eleven = k.eleven }
+
 kept : (r : Request) (h : Held) → Kept h r (acts r h)
 unfolding acts
 kept list' h = state-kept list' lists h (list-kept h.model h.state)
@@ -208,6 +245,8 @@ kept (run' ws vs n l) h = clock-kept (run' ws vs n l) (runs_over ws vs n l) h (r
 kept (save' n) h = saves-kept (save' n) (saving n) h (save-kept n (timed_of h) h.saves)
 kept (return' n) h = saves-kept (return' n) (returning n) h (return_kept n (timed_of h) h.saves)
 kept (forget' n) h = saves-kept (forget' n) (forgetting n) h (forget-kept n (timed_of h) h.saves)
+kept (begin' x d) h = searching-kept (begin' x d) _ h (begin-kept x d h.model h.state h.search)
+kept (carry' n) h = searching-kept (carry' n) _ h (carry-kept n h.model h.search)
 
 -- ---- openings
 
@@ -258,21 +297,21 @@ carries y c = by (has_lengths c.ask c.lengths c.output)
     by true = asked-carries y c.ask
     by false = under1
 
-asked-stays : (y : Machine) (k : Ask) → WholeAsk k → ((asked_of_machine y k).answer.number ≡ 0 → ⊥) → (asked_of_machine y k).machine ≡ y
+asked-stays : (y : Machine) (k : Ask) → WholeAsk k (asked_of_machine y k).answer.number → ((asked_of_machine y k).answer.number ≡ 0 → ⊥) → (asked_of_machine y k).machine ≡ y
 unfolding asked_of_machine on_machine WholeAsk
 asked-stays y (open' text) r n = absurd r
 asked-stays y (open_steady' text) r n = absurd r
 asked-stays closed (on' r) u n = refl
 asked-stays (holding h) (on' r) u n = ap holding ((kept r h).stays u n)
 
--- 01, Listing and stepping: no refusal alters the state, but for a run's, R.7
-pub refusal-stays : (y : Machine) (c : Call) → WholeAsk c.ask → ((calls y c).answer.number ≡ 0 → ⊥) → (calls y c).machine ≡ y
+-- 01, Listing and stepping: no refusal alters the state, but for a run's, R.7, and 02, note 10: 27 of a search that is carried on
+pub refusal-stays : (y : Machine) (c : Call) → WholeAsk c.ask (calls y c).answer.number → ((calls y c).answer.number ≡ 0 → ⊥) → (calls y c).machine ≡ y
 unfolding calls
-refusal-stays y c r = by (has_lengths c.ask c.lengths c.output)
+refusal-stays y c = by (has_lengths c.ask c.lengths c.output)
   where
-    by : (b : Bool) → ((cond b (asked_of_machine y c.ask) (turn y (no 1 0 0 as_lent))).answer.number ≡ 0 → ⊥) → (cond b (asked_of_machine y c.ask) (turn y (no 1 0 0 as_lent))).machine ≡ y
-    by true n = asked-stays y c.ask r n
-    by false n = refl
+    by : (b : Bool) → WholeAsk c.ask (cond b (asked_of_machine y c.ask) (turn y (no 1 0 0 as_lent))).answer.number → ((cond b (asked_of_machine y c.ask) (turn y (no 1 0 0 as_lent))).answer.number ≡ 0 → ⊥) → (cond b (asked_of_machine y c.ask) (turn y (no 1 0 0 as_lent))).machine ≡ y
+    by true r n = asked-stays y c.ask r n
+    by false r n = refl
 
 pub asked-not-1 : (y : Machine) (k : Ask) → (asked_of_machine y k).answer.number ≡ 1 → ⊥
 unfolding asked_of_machine on_machine no

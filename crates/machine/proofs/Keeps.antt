@@ -2,6 +2,7 @@
 use mathlib.Core.Path.{◌≡◌, refl}
 use mathlib.Core.List.{List}
 use mathlib.Core.Bool.{Bool, true, false, cond, ◌&&◌}
+use mathlib.Core.Option.{Option}
 use Prim.Native.Nat.{ℕ, ◌+◌, ◌≤◌}
 use native.Mathlib.Omega.{arith}
 use borrow.Author.Tests.{leb-true}
@@ -19,17 +20,18 @@ use Rattle.rules.specs.Listing.{Entry}
 use Rattle.machine.specs.State.{State, GoodState}
 use Rattle.machine.specs.Timed.{Timed, timed, GoodTimed}
 use Rattle.machine.specs.Saves.{Saves, Stored, saving, returning, forgetting}
-use Rattle.machine.specs.Machine.{Listed, entries_are, refused_with, listing, Turn, turn, drawn, with_wait, steps_in, times_with, runs_over, showing, lists, sharing, reports, choosing, steps_with, searches, Held, held, timed_of, Good, on_state, on_clock, on_saves, Request, list', step', report', search', timed', run', save', return', forget', acts, opened_state}
+use Rattle.machine.specs.Machine.{Listed, entries_are, refused_with, listing, Turn, turn, drawn, with_wait, steps_in, times_with, runs_over, showing, lists, sharing, reports, choosing, steps_with, searches, Held, held, timed_of, Good, on_state, on_clock, on_saves, Request, list', step', report', search', timed', run', save', return', forget', acts, opened_state, Search, GoodSearching, on_search, begin', carry'}
 use Rattle.machine.specs.Questions.{Steps, no15, no16, no17, no18, no19, yes19}
 use Rattle.machine.proofs.Listing.{accepted}
 use Rattle.machine.proofs.Stepping as stepping
 use Rattle.machine.proofs.Running.{run-keeps}
+use Rattle.machine.proofs.Carrying.{begins-good, carries-good}
 use Rattle.machine.proofs.Stays as stays
 use Rattle.machine.proofs.Saves.{no-saves-hold, StoredOf, saving-holds, returning-holds, forgetting-holds}
 
 -- 01, Open
 pub opened-good : (m : Resolved.Model) → GoodModel m → opening.processes_at_start m.definitions m.starts ≤ process_limit → Good (held m (opened_state m))
-opened-good m g few = record { state = stays.opened-good m g few; saves = no-saves-hold (GoodTimed m); clock = record { ticks = omega arith; draws = omega arith } }
+opened-good m g few = record { state = stays.opened-good m g few; saves = no-saves-hold (GoodTimed m); clock = record { ticks = omega arith; draws = omega arith }; search = unfold GoodSearching in tt }
 
 -- ---- turns of a state
 
@@ -116,20 +118,25 @@ runs-good ws vs n l m s c k g r =
 -- one that turns the state
 state-good : (f : Resolved.Model → State → Turn State) (h : Held) → Good h → GoodState h.model (f h.model h.state).machine → Good (on_state f h).machine
 unfolding on_state
-state-good f h g k = record { state = k; saves = g.saves; clock = g.clock }
+state-good f h g k = record { state = k; saves = g.saves; clock = g.clock; search = g.search }
 
 -- 02, note 4: the state and the clock
 clock-good : (f : Resolved.Model → State → Clock → Turn Timed) (h : Held) → Good h → GoodTimed h.model (f h.model h.state h.clock).machine → Good (on_clock f h).machine
 unfolding on_clock
-clock-good f h g k = record { state = k.state; saves = g.saves; clock = k.clock }
+clock-good f h g k = record { state = k.state; saves = g.saves; clock = k.clock; search = g.search }
 
 timed-good : (h : Held) → Good h → GoodTimed h.model (timed_of h)
 timed-good h g = record { state = g.state; clock = g.clock }
 
 -- one that turns state, clock and saves
-saves-good : (f : Timed → Saves → Stored) (h : Held) → StoredOf (GoodTimed h.model) (f (timed_of h) h.saves) → Good (on_saves f h).machine
+saves-good : (f : Timed → Saves → Stored) (h : Held) → Good h → StoredOf (GoodTimed h.model) (f (timed_of h) h.saves) → Good (on_saves f h).machine
 unfolding on_saves
-saves-good f h k = record { state = k.kept.state; saves = k.saves; clock = k.kept.clock }
+saves-good f h g k = record { state = k.kept.state; saves = k.saves; clock = k.kept.clock; search = g.search }
+
+-- 02, note 10: one that turns the search
+search-good-in : (f : Resolved.Model → State → Option Search → Turn (Option Search)) (h : Held) → Good h → GoodSearching h.model (f h.model h.state h.search).machine → Good (on_search f h).machine
+unfolding on_search
+search-good-in f h g k = record { state = g.state; saves = g.saves; clock = g.clock; search = k }
 
 pub acts-good : (r : Request) (h : Held) → GoodModel h.model → Good h → Good (acts r h).machine
 unfolding acts
@@ -139,13 +146,15 @@ acts-good report' h k g = state-good reports h g (report-good h.model h.state g.
 acts-good (search' x d) h k g = state-good (searches x d) h g (search-good h.model h.state g.state x d)
 acts-good (timed' ds d) h k g = clock-good (times_with ds d) h g (times-good h.model h.state h.clock k g.state g.clock ds d)
 acts-good (run' ws vs n l) h k g = clock-good (runs_over ws vs n l) h g (runs-good ws vs n l h.model h.state h.clock k g.state g.clock)
-acts-good (save' n) h k g = saves-good (saving n) h (saving-holds (GoodTimed h.model) n (timed_of h) h.saves (timed-good h g) g.saves)
-acts-good (return' n) h k g = saves-good (returning n) h (returning-holds (GoodTimed h.model) n (timed_of h) h.saves (timed-good h g) g.saves)
-acts-good (forget' n) h k g = saves-good (forgetting n) h (forgetting-holds (GoodTimed h.model) n (timed_of h) h.saves (timed-good h g) g.saves)
+acts-good (save' n) h k g = saves-good (saving n) h g (saving-holds (GoodTimed h.model) n (timed_of h) h.saves (timed-good h g) g.saves)
+acts-good (return' n) h k g = saves-good (returning n) h g (returning-holds (GoodTimed h.model) n (timed_of h) h.saves (timed-good h g) g.saves)
+acts-good (forget' n) h k g = saves-good (forgetting n) h g (forgetting-holds (GoodTimed h.model) n (timed_of h) h.saves (timed-good h g) g.saves)
+acts-good (begin' x d) h k g = search-good-in _ h g (begins-good x d h.model h.state h.search g.state g.search)
+acts-good (carry' n) h k g = search-good-in _ h g (carries-good n h.model h.search g.search)
 
 -- 01, Rule machine: no request alters the model
 pub same-model : (r : Request) (h : Held) → (acts r h).machine.model ≡ h.model
-unfolding acts on_state on_clock on_saves
+unfolding acts on_state on_clock on_saves on_search
 same-model list' h = refl
 same-model (step' d) h = refl
 same-model report' h = refl
@@ -155,3 +164,5 @@ same-model (run' ws vs n l) h = refl
 same-model (save' n) h = refl
 same-model (return' n) h = refl
 same-model (forget' n) h = refl
+same-model (begin' x d) h = refl
+same-model (carry' n) h = refl

@@ -16,7 +16,7 @@ use Rattle.model.proofs.Opened as opened
 use Rattle.rules.proofs.Decides.{passes}
 use Rattle.machine.specs.Timed.{Timed, GoodTimed}
 use Rattle.machine.specs.Saves.{is_name, same, saved, save_limit, Saves, no_saves, named, place_of, place_for, kept_under, GoodSaves, Stored, stored, replaced, removed, saving, returning, forgetting}
-use Rattle.machine.specs.Machine.{as_lent, no, turn, Held, timed_of, stored_in, Machine, closed, holding, on_state, on_clock, on_saves, Request, list', step', report', search', timed', run', save', return', forget', Ask, open', open_steady', on', acts, Call, has_lengths, opens, on_machine, asked_of_machine, calls, after}
+use Rattle.machine.specs.Machine.{as_lent, no, turn, Held, timed_of, stored_in, Machine, closed, holding, on_state, on_clock, on_saves, Request, list', step', report', search', timed', run', save', return', forget', Ask, open', open_steady', on', acts, Call, has_lengths, opens, on_machine, asked_of_machine, calls, after, on_search, begin', carry'}
 use Rattle.machine.specs.Results.{Lent}
 use Rattle.machine.specs.Latest.{kept_in, saves_name, forgets_name, saves_under, forgets, alters, Without, done, more, Saved, Latest, Known, Finds}
 use Rattle.machine.proofs.Lent.{lent-so}
@@ -126,7 +126,7 @@ module _ (n : List ℕ) where
         by false c l = refused-left h (forget' k) 20 refl
 
     acts-met : (r : Request) → Met n (holding h) (on' r) (acts r h).answer.number (holding (acts r h).machine)
-    unfolding acts on_state on_clock on_saves no make saves_name forgets_name
+    unfolding acts on_state on_clock on_saves on_search no make saves_name forgets_name
     acts-met list' = left h _ list' _ refl refl refl
     acts-met (step' d) = left h _ (step' d) _ refl refl refl
     acts-met report' = left h _ report' _ refl refl refl
@@ -136,6 +136,8 @@ module _ (n : List ℕ) where
     acts-met (save' k) = save-step k
     acts-met (return' k) = return-step k
     acts-met (forget' k) = forget-step k
+    acts-met (begin' x d) = left h _ (begin' x d) _ refl refl refl
+    acts-met (carry' k) = left h _ (carry' k) _ refl refl refl
 
   -- ---- openings, closed machines, and 1
 
@@ -208,6 +210,8 @@ saved-is n (on' (save' k)) a t = by (same k n) (eqb a 0) refl refl t
     by false c e f t = not-both true refl (sym t)
 saved-is n (on' (return' k)) a t = not-both true refl (sym t)
 saved-is n (on' (forget' k)) a t = not-both true refl (sym t)
+saved-is n (on' (begin' x d)) a t = not-both true refl (sym t)
+saved-is n (on' (carry' k)) a t = not-both true refl (sym t)
 
 is-save : (n : List ℕ) (k : Ask) (a : ℕ) → k ≡ on' (save' n) → a ≡ 0 → saves_under n k a ≡ true
 unfolding saves_under saves_name

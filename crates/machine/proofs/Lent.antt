@@ -9,13 +9,13 @@ use lib.Dec.{eqb}
 use borrow.Author.Tests.{eqb-true, eqb-false, eq-eqb}
 use Rattle.value.proofs.Kit.{true-not-false, false-not-true}
 use Rattle.rules.proofs.Decides.{Decides, holds, fails, both}
-use Rattle.machine.specs.Machine.{Part, model, state, saves, clock, size, part_number, lent_to, output_of, is_lent, all_parts, has_lengths, Call}
+use Rattle.machine.specs.Machine.{Part, model, state, saves, clock, size, part_number, lent_to, output_of, is_lent, all_parts, has_lengths, Call, search}
 use Rattle.machine.specs.Results.{Lent}
 
 -- ---- parts by their number
 
 part_at : ℕ → Part
-part_at n = cond (eqb n 0) model (cond (eqb n 1) state (cond (eqb n 2) saves clock))
+part_at n = cond (eqb n 0) model (cond (eqb n 1) state (cond (eqb n 2) saves (cond (eqb n 3) clock search)))
 
 number-part : (p : Part) → part_at (part_number p) ≡ p
 unfolding part_at
@@ -23,6 +23,7 @@ number-part model = refl
 number-part state = refl
 number-part saves = refl
 number-part clock = refl
+number-part search = refl
 
 same-part : (p q : Part) → eqb (part_number p) (part_number q) ≡ true → p ≡ q
 same-part p q e = sym (number-part p) ∙ ap part_at (eqb-true _ _ e) ∙ number-part q

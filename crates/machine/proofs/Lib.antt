@@ -15,6 +15,7 @@ pub mod Ranges
 pub mod Continues
 pub mod Bound
 pub mod Stays
+pub mod Carrying
 pub mod Keeps
 pub mod Steady
 pub mod Reached
@@ -30,6 +31,7 @@ pub mod Lent
 pub mod Carries
 pub mod Latest
 pub mod Searching
+pub mod Pieces
 pub mod Report
 pub mod Independent
 pub mod Profile

@@ -30,7 +30,7 @@ use Rattle.machine.specs.State.{State}
 use Rattle.machine.specs.Timed.{Timed, timed}
 use Rattle.machine.specs.Saves.{is_name, Saves, SavesOf, save_limit, place_of, place_for, kept_under, stored, replaced, removed, saving, returning, forgetting}
 use Rattle.machine.specs.Machine.{as_lent, Answer, no, listed_as, reported_as, entry_limit, total_limit, Listed, entries_are, refused_with, counted, listing, Turn, turn, drawn, refused_as, with_wait, steps_in, times_with, ran_as, runs_over, showing, lists, sharing, reports, choosing, steps_with, found_as, moves_to, is_depth, searched_as, searches}
-use Rattle.machine.specs.Machine.{Held, held, timed_of, Good, Machine, closed, holding, on_state, on_clock, on_saves, Request, list', step', report', search', timed', run', save', return', forget', Ask, open', open_steady', on', acts, Part, has_lengths, Call, call, opened_state, on_machine, asked_of_machine, calls, after}
+use Rattle.machine.specs.Machine.{Held, held, timed_of, Good, Machine, closed, holding, on_state, on_clock, on_saves, Request, list', step', report', search', timed', run', save', return', forget', Ask, open', open_steady', on', acts, Part, has_lengths, Call, call, opened_state, on_machine, asked_of_machine, calls, after, on_search, begin', carry'}
 use Rattle.machine.specs.Machine as machine
 use Rattle.machine.specs.Questions.{no12, no13, no14, yes14}
 use Rattle.machine.specs.Questions as questions
@@ -39,6 +39,7 @@ use Rattle.machine.specs.Steady.{processes_in, IsStep, OpensNothing, Steadily, A
 use Rattle.machine.specs.Steady as steadily
 use Rattle.machine.proofs.Listing as listing
 use Rattle.machine.proofs.Keeps.{acts-good, same-model}
+use Rattle.machine.proofs.Carrying.{begins-not, carries-not}
 use Rattle.machine.proofs.Keeps as keeps
 use Rattle.machine.proofs.Saves.{no-saves-hold, saving-holds, returning-holds, forgetting-holds}
 use Rattle.machine.proofs.Running.{run-keeps}
@@ -189,7 +190,7 @@ record Fit (n : ℕ) (h : Held) : Type 0 where
   kept : SavesOf (Few n) h.saves
 
 request-not : {n : ℕ} (r : Request) (h : Held) → Fit n h → (acts r h).answer.number ≡ 18 → ⊥
-unfolding acts on_state on_clock times_with on_saves no
+unfolding acts on_state on_clock times_with on_saves on_search no
 request-not list' h f = list-not h.model h.state
 request-not (step' d) h f = (step_kept h.model h.state f.steady d).not-eighteen f.good.state.few-processes
 request-not report' h f = report-not h.model h.state
@@ -199,6 +200,8 @@ request-not (run' ws vs n l) h f = (run-steady ws vs n l h f.steady f.good.state
 request-not (save' n) h f = save-not n (timed_of h) h.saves
 request-not (return' n) h f = return-not n (timed_of h) h.saves
 request-not (forget' n) h f = forget-not n (timed_of h) h.saves
+request-not (begin' x d) h f = begins-not x d h.model h.state h.search
+request-not (carry' n) h f = carries-not n h.model h.search
 
 step-few : {n : ℕ} (r : Request) (h : Held) → Fit n h → IsStep r → length (acts r h).machine.state.processes ≤ length h.state.processes
 unfolding acts on_state on_clock times_with IsStep
@@ -211,6 +214,8 @@ step-few (run' ws vs n l) h f i = (run-steady ws vs n l h f.steady f.good.state.
 step-few (save' n) h f i = absurd i
 step-few (return' n) h f i = absurd i
 step-few (forget' n) h f i = absurd i
+step-few (begin' x d) h f i = absurd i
+step-few (carry' n) h f i = absurd i
 
 -- what is held afterwards has n processes at most
 record Within (n : ℕ) (h : Held) : Type 0 where
@@ -218,7 +223,7 @@ record Within (n : ℕ) (h : Held) : Type 0 where
   kept : SavesOf (Few n) h.saves
 
 request-within : {n : ℕ} (r : Request) (h : Held) → Fit n h → Within n (acts r h).machine
-unfolding acts on_state on_clock times_with on_saves
+unfolding acts on_state on_clock times_with on_saves on_search
 request-within list' h f = record { now = omega (arith, list-few h.model h.state, f.now); kept = f.kept }
 request-within (step' d) h f = record { now = omega (arith, (step_kept h.model h.state f.steady d).few, f.now); kept = f.kept }
 request-within report' h f = record { now = omega (arith, report-few h.model h.state, f.now); kept = f.kept }
@@ -228,6 +233,8 @@ request-within (run' ws vs k l) h f = record { now = omega (arith, (run-steady w
 request-within {n} (save' k) h f = let x = saving-holds (Few n) k (timed_of h) h.saves f.now f.kept in record { now = x.kept; kept = x.saves }
 request-within {n} (return' k) h f = let x = returning-holds (Few n) k (timed_of h) h.saves f.now f.kept in record { now = x.kept; kept = x.saves }
 request-within {n} (forget' k) h f = let x = forgetting-holds (Few n) k (timed_of h) h.saves f.now f.kept in record { now = x.kept; kept = x.saves }
+request-within (begin' x d) h f = record { now = f.now; kept = f.kept }
+request-within (carry' k) h f = record { now = f.now; kept = f.kept }
 
 request-fit : {n : ℕ} (r : Request) (h : Held) → Fit n h → Fit n (acts r h).machine
 request-fit r h f =

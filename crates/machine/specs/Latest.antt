@@ -4,7 +4,7 @@ use Rattle.std.specs.Prelude.{◌≡◌, List, [], ◌∷◌, ◌++◌, Bool, fa
 use Rattle.std.proofs.Math.Option.{Option, none}
 use Rattle.machine.specs.Timed.{Timed}
 use Rattle.machine.specs.Saves.{same, kept_under}
-use Rattle.machine.specs.Machine.{Held, timed_of, Machine, closed, holding, Request, list', step', report', search', timed', run', save', return', forget', Ask, open', open_steady', on', Call, calls, after}
+use Rattle.machine.specs.Machine.{Held, timed_of, Machine, closed, holding, Request, list', step', report', search', timed', run', save', return', forget', begin', carry', Ask, open', open_steady', on', Call, calls, after}
 
 -- the state and the clock that the machine has under a name
 unfoldable pub kept_in : List ℕ → Machine → Option Timed
@@ -23,6 +23,8 @@ saves_name n (run' ws vs k l) = false
 saves_name n (save' k) = same k n
 saves_name n (return' k) = false
 saves_name n (forget' k) = false
+saves_name n (begin' x d) = false
+saves_name n (carry' k) = false
 
 unfoldable pub forgets_name : List ℕ → Request → Bool
 forgets_name n list' = false
@@ -34,6 +36,8 @@ forgets_name n (run' ws vs k l) = false
 forgets_name n (save' k) = false
 forgets_name n (return' k) = false
 forgets_name n (forget' k) = same k n
+forgets_name n (begin' x d) = false
+forgets_name n (carry' k) = false
 
 -- a save under the name that is accepted, of what was asked and the number of the answer
 unfoldable pub saves_under : List ℕ → Ask → ℕ → Bool

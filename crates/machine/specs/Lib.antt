@@ -22,3 +22,5 @@ pub mod Latest
 pub mod Independent
 pub mod Orders
 pub mod Searching
+pub mod Pieces
+pub mod PieceRows

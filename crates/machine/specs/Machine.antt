@@ -1,6 +1,6 @@
 -- The rule machine (01, State and rule machine): fed texts, draws and the lengths of all that is lent, it answers each call and reads no buffer. What it holds is a
 -- record, a call asks something and carries the lengths of the parts that it is lent. Assumes nothing: these are definitions.
-use Rattle.std.specs.Prelude.{List, [], ◌∷◌, ◌++◌, map, Bool, true, false, cond, ◌&&◌, ◌||◌, ℕ, zero, suc, ◌+◌, ◌-◌, ◌*◌, ◌/◌, min, eqb, leb, ℤ, length, drop, None, Some, Err, Ok}
+use Rattle.std.specs.Prelude.{List, [], ◌∷◌, ◌++◌, map, Bool, true, false, cond, ◌&&◌, ◌||◌, ℕ, zero, suc, ◌+◌, ◌-◌, ◌*◌, ◌/◌, min, eqb, leb, ℤ, length, drop, None, Some, Err, Ok, ◌≡◌, ◌≤◌, ltb, get_or}
 use Rattle.std.proofs.Math.Option.{Option, none, some, Option-elim}
 use Rattle.std.proofs.Math.ListN.{get_elem?}
 use Rattle.token.specs.Token.{same_bytes}
@@ -8,6 +8,7 @@ use Rattle.token.specs.Questions.{text_limit}
 use Rattle.model.specs.Resolved
 use Rattle.model.specs.Opening.{process_limit, Opening, refused, opened, opening}
 use Rattle.profile.specs.Opening.{opening_steady}
+use Rattle.waitnames.specs.Names.{wait_names, wait_number}
 use Rattle.rules.specs.Offers as offers
 use Rattle.rules.specs.Kind as kind
 use Rattle.rules.specs.Rules.{Key, key}
@@ -16,6 +17,8 @@ use Rattle.rules.specs.Draw.{weights, total, chosen}
 use Rattle.rules.specs.Step as steps
 use Rattle.runs.specs.Tree as tree
 use Rattle.runs.specs.Walk as walk
+use Rattle.runs.specs.Marks as marks
+use Rattle.runs.specs.Marks.{Mark, unmarked, Going, going, gone}
 use Rattle.words.specs.Words.{draw_of, Drawn}
 use Rattle.clock.specs.declared.Clock.{Clock}
 use Rattle.clock.specs.Clock.{fresh_clock, InRange, late_number, Brought, brought_by}
@@ -72,7 +75,7 @@ pub record Answer : Type 0 where
   pub total : ℕ
   pub chosen : ℕ
   pub run : List ℕ  -- 02, note 8: the entry numbers of the run that a search answers
-  pub used : List ℕ  -- R.5: the steps, words and waiting draws that a run of timed steps used
+  pub used : List ℕ  -- R.5: the steps, words and waiting draws that a run of timed steps used; 02, note 10: whether a search that is carried on has ended, 1 or 0, alone
   pub listing : Shown
 
 -- 01, Opening a text, Listing and stepping: a refusal carries 0 beyond its number and places, as does an opening's acceptance
@@ -251,6 +254,84 @@ searched_as tree.unsure = no 27 0 0 as_lent
 unfoldable pub searches : (name : List ℕ) (depth : ℕ) → Resolved.Model → State → Turn State
 searches x d m s = turn s (cond (is_depth d) (searched_as (walk.search (moves_to m x) s d)) (no 26 0 0 as_lent))
 
+-- ---- a search that is begun and carried on (02, note 10)
+
+-- a search under way: the state at which it began, the wait by its number, none where no wait has the name that was lent, the depth, how many states were walked, and where it stands
+pub record Search : Type 0 where
+  pub start : State
+  pub wait : Option ℕ
+  pub depth : ℕ
+  pub count : ℕ
+  pub mark : Mark
+
+-- 02, note 10: begun at a state; nothing is walked
+abbrev pub search_from : State → (wait : Option ℕ) (depth : ℕ) → Search
+search_from s w d = record { start = s; wait = w; depth = d; count = 0; mark = unmarked }
+
+-- the same search, so many states and this far on
+abbrev pub search_at : Search → ℕ → Mark → Search
+search_at x c p = record { start = x.start; wait = x.wait; depth = x.depth; count = c; mark = p }
+
+-- what it goes over: to the wait of this number; where there is none, no entry is the wait
+unfoldable pub moves_by : Resolved.Model → (wait : Option ℕ) → State → tree.Listed State
+moves_by m none s = tree.unsought (moves_to m [] s)
+moves_by m (some n) s = moves_to m (get_or (wait_names m) n []) s
+
+-- 02, note 10, 28: the largest count
+abbrev pub count_limit : ℕ
+count_limit = 9000000000000000000
+
+-- 02, note 10: what carrying on carries: the count since the beginning, whether the search has ended, 1 or 0, and, once it has, the search's answer
+unfoldable pub progress_as : (number count ended : ℕ) → (run : List ℕ) → Answer
+progress_as n c e r = record { number = n; place = 0; branch = 0; count = c; total = 0; chosen = 0; run = r; used = e ∷ []; listing = as_lent }
+
+-- 02, note 10: at the end: the run, none, or 27
+unfoldable pub ended_as : ℕ → tree.Answer → Answer
+ended_as c (tree.found r) = progress_as 0 c 1 r
+ended_as c tree.nothing = progress_as 0 c 1 []
+ended_as c tree.unsure = progress_as 27 c 1 []
+
+-- 02, note 10: still under way, or at its end, after which none is
+unfoldable pub carried_as : Search → Going → Turn (Option Search)
+carried_as x (going c p) = turn (some (search_at x c p)) (progress_as 0 c 0 [])
+carried_as x (gone c a) = turn none (ended_as c a)
+
+-- 02, note 10: 26 leaves what is under way, another beginning replaces it
+unfoldable pub begins : (name : List ℕ) (depth : ℕ) → Resolved.Model → State → Option Search → Turn (Option Search)
+begins x d m s o = cond (is_depth d) (turn (some (search_from s (wait_number m x) d)) (no 0 0 0 as_lent)) (turn o (no 26 0 0 as_lent))
+
+-- 02, note 10: 28, or exactly n states unless the search ends
+unfoldable pub carries_by : (number : ℕ) → Resolved.Model → Option Search → Turn (Option Search)
+carries_by n m none = turn none (no 28 0 0 as_lent)
+carries_by n m (some x) =
+    cond (leb (x.count + n) count_limit) (carried_as x (marks.carry_on (moves_by m x.wait) x.start x.depth n (going x.count x.mark))) (turn (some x) (no 28 0 0 as_lent))
+
+-- 02, note 10: a wait of the model, or none
+unfoldable pub is_wait_number : Resolved.Model → Option ℕ → Bool
+is_wait_number m none = true
+is_wait_number m (some n) = ltb n (length (wait_names m))
+
+-- 02, note 10, question 11: a start over the model, a wait of it or none, a depth, a count up to the limit, and a run from the start, absent exactly when the count is 0
+pub record GoodSearch (m : Resolved.Model) (x : Search) : Type 0 where
+  pub start : GoodState m x.start
+  pub wait : is_wait_number m x.wait ≡ true
+  pub depth : is_depth x.depth ≡ true
+  pub count : x.count ≤ count_limit
+  pub stands : marks.is_mark (moves_by m x.wait) x.start x.depth x.count x.mark.last ≡ true
+
+-- one under way or none
+unfoldable pub GoodSearching : Resolved.Model → Option Search → Type 0
+GoodSearching m none = Unit {0}
+GoodSearching m (some x) = GoodSearch m x
+
+-- docs/LAYOUT.md: depth, wait, count, whether a refusal was met, and the run's length; then its entries and the numbers of the start
+abbrev pub search_head : ℕ
+search_head = 5
+
+-- with the run and the start
+abbrev pub search_length : ℕ
+search_length = search_head + depth_limit + state_length
+
 -- ---- turns of a state and a clock (02, note 4)
 
 -- 02, note 4: 23 to 25 answer as 19 does: with the count and total of the listing, which stays filled, and 0 as chosen entry
@@ -368,15 +449,21 @@ runs_over ws vs n l m s c = ran (runs_with n (l / event_width) ws vs m s c)
 
 -- ---- what the machine holds
 
--- 01, Rule machine: the model it read, with a state; 02, notes 2 and 4: and saves and a clock
+-- 01, Rule machine: the model it read, with a state; 02, notes 2 and 4: and saves and a clock; 02, note 10: and the search under way
 pub record Held : Type 0 where
   pub model : Resolved.Model
   pub state : State
   pub saves : Saves
   pub clock : Clock
+  pub search : Option Search
 
+-- all of it
+abbrev pub held_whole : Resolved.Model → State → Saves → Clock → Option Search → Held
+held_whole m s ss c x = record { model = m; state = s; saves = ss; clock = c; search = x }
+
+-- no search under way
 abbrev pub held_all : Resolved.Model → State → Saves → Clock → Held
-held_all m s ss c = record { model = m; state = s; saves = ss; clock = c }
+held_all m s ss c = held_whole m s ss c none
 
 -- a clock at zero
 abbrev pub held_with : Resolved.Model → State → Saves → Held
@@ -388,21 +475,26 @@ held m s = held_with m s no_saves
 
 -- the same, with this state
 abbrev pub moved : Held → State → Held
-moved h s = held_all h.model s h.saves h.clock
+moved h s = held_whole h.model s h.saves h.clock h.search
 
 -- with this state and this clock
 abbrev pub moved_in : Held → Timed → Held
-moved_in h t = held_all h.model t.state h.saves t.clock
+moved_in h t = held_whole h.model t.state h.saves t.clock h.search
+
+-- with this search
+abbrev pub searched_in : Held → Option Search → Held
+searched_in h x = held_whole h.model h.state h.saves h.clock x
 
 -- the state and the clock
 abbrev pub timed_of : Held → Timed
 timed_of h = timed h.state h.clock
 
--- 01, Listing, 11, and 02, notes 2 and 4: all that is held is over the model, the clock in its range
+-- 01, Listing, 11, and 02, notes 2, 4 and 10: all that is held is over the model, the clock in its range
 pub record Good (h : Held) : Type 0 where
   pub state : GoodState h.model h.state
   pub saves : GoodSaves h.model h.saves
   pub clock : InRange h.clock
+  pub search : GoodSearching h.model h.search
 
 -- 01, Rule machine: closed, or holding all that
 pub data Machine : Type 0 where
@@ -421,15 +513,19 @@ on_clock f h = let t = f h.model h.state h.clock in turn (moved_in h t.machine) 
 
 -- with what a turn of the saves leaves
 abbrev pub stored_in : Held → Stored → Held
-stored_in h x = held_all h.model x.kept.state x.saves x.kept.clock
+stored_in h x = held_whole h.model x.kept.state x.saves x.kept.clock h.search
 
 -- 02, note 2: state and saves are read and written, 02, note 4: and the clock with the state; the answer is a number
 unfoldable pub on_saves : (Timed → Saves → Stored) → Held → Turn Held
 on_saves f h = let x = f (timed_of h) h.saves in turn (stored_in h x) (no x.number 0 0 as_lent)
 
+-- 02, note 10: the search is read and written, the state read
+unfoldable pub on_search : (Resolved.Model → State → Option Search → Turn (Option Search)) → Held → Turn Held
+on_search f h = let t = f h.model h.state h.search in turn (searched_in h t.machine) t.answer
+
 -- ---- calls
 
--- 01, Listing and stepping, 02, notes 2, 4, 6 and 8, and R.6: requests to a model that is held, of which 11 is asked first; a run says how long its events' buffer is
+-- 01, Listing and stepping, 02, notes 2, 4, 6, 8 and 10, and R.6: requests to a model that is held, of which 11 is asked first; a run says how long its events' buffer is
 pub data Request : Type 0 where
   list' : Request
   step' : (draw : ℕ) → Request
@@ -440,6 +536,8 @@ pub data Request : Type 0 where
   save' : (name : List ℕ) → Request
   return' : (name : List ℕ) → Request
   forget' : (name : List ℕ) → Request
+  begin' : (name : List ℕ) (depth : ℕ) → Request
+  carry' : (number : ℕ) → Request
 
 -- 01, Rule machine, and 02, note 11: what a call asks: to open a text, plainly or under the steady profile, or a request
 pub data Ask : Type 0 where
@@ -458,15 +556,18 @@ acts (run' ws vs n l) = on_clock (runs_over ws vs n l)
 acts (save' n) = on_saves (saving n)
 acts (return' n) = on_saves (returning n)
 acts (forget' n) = on_saves (forgetting n)
+acts (begin' x d) = on_search (begins x d)
+acts (carry' n) = on_search (λ m s. carries_by n m)
 
 -- ---- what is lent
 
--- 01, State, and 02, note 2: the engine's buffers; 02, note 4: and its clock
+-- 01, State, and 02, notes 2 and 10: the engine's buffers; 02, note 4: and its clock
 pub data Part : Type 0 where
   model : Part
   state : Part
   saves : Part
   clock : Part
+  search : Part
 
 -- 01, 1: their lengths
 abbrev pub size : Part → ℕ
@@ -474,12 +575,14 @@ size model = model_length
 size state = state_length
 size saves = saves_length
 size clock = clock_length
+size search = search_length
 
 abbrev pub part_number : Part → ℕ
 part_number model = 0
 part_number state = 1
 part_number saves = 2
 part_number clock = 3
+part_number search = 4
 
 -- the two that every list, step, report and search is lent
 abbrev pub two_parts : List Part
@@ -497,6 +600,10 @@ three_parts = model ∷ state ∷ saves ∷ []
 abbrev pub four_parts : List Part
 four_parts = model ∷ state ∷ saves ∷ clock ∷ []
 
+-- 02, note 10: of a search that is begun or carried on
+abbrev pub search_parts : List Part
+search_parts = model ∷ state ∷ search ∷ []
+
 -- 02, note 2: a buffer goes only to the calls that use it
 abbrev pub uses : Request → List Part
 uses list' = two_parts
@@ -508,11 +615,13 @@ uses (run' ws vs n l) = timed_parts
 uses (save' n) = four_parts
 uses (return' n) = four_parts
 uses (forget' n) = three_parts
+uses (begin' x d) = search_parts
+uses (carry' n) = search_parts
 
 -- an opening writes them all
 abbrev pub lent_to : Ask → List Part
-lent_to (open' text) = model ∷ state ∷ saves ∷ clock ∷ []
-lent_to (open_steady' text) = model ∷ state ∷ saves ∷ clock ∷ []
+lent_to (open' text) = model ∷ state ∷ saves ∷ clock ∷ search ∷ []
+lent_to (open_steady' text) = model ∷ state ∷ saves ∷ clock ∷ search ∷ []
 lent_to (on' r) = uses r
 
 -- 01, Transitions, and 02, note 6: the length of the output buffer, the listing or the report, of a call that is lent one; R.6: of a run's events, which may have any, the one it says
@@ -528,6 +637,8 @@ output_of (on' (run' ws vs n l)) = some l
 output_of (on' (save' n)) = none
 output_of (on' (return' n)) = none
 output_of (on' (forget' n)) = none
+output_of (on' (begin' x d)) = none
+output_of (on' (carry' n)) = none
 
 unfoldable pub is_lent : Part → List Part → Bool
 is_lent p [] = false
@@ -567,7 +678,7 @@ start_processes m (s ∷ ss) = copies s.count (called m s.definition s.values) +
 unfoldable pub opened_state : Resolved.Model → State
 opened_state m = record { processes = start_processes m m.starts; pairs = [] }
 
--- 01, Fresh, and 02, note 11: refusals 2 to 10 and 29 lead back to it; an accepted text's model is held, with its opened state; 02, note 2: either way nothing is saved
+-- 01, Fresh, and 02, note 11: refusals 2 to 10 and 29 lead back to it; an accepted text's model is held, with its opened state; 02, notes 2 and 10: either way nothing is saved and no search is under way
 unfoldable pub opens : Opening → Turn Machine
 opens (refused n p) = turn closed (no n p 0 as_lent)
 opens (opened m) = turn (holding (held m (opened_state m))) (no 0 0 0 as_lent)

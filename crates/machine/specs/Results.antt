@@ -1,9 +1,9 @@
 -- What a call's answer carries, whatever it was asked of (01, Opening a text; Listing and stepping, last paragraph): a constructor for each number. Assumes
 -- nothing: these are definitions.
-use Rattle.std.specs.Prelude.{◌≡◌, List, true, ◌⊎◌, ℕ, ◌*◌, ◌≤◌, length}
+use Rattle.std.specs.Prelude.{◌≡◌, List, [], true, ◌⊎◌, ℕ, ◌*◌, ◌≤◌, length}
 use Rattle.std.proofs.Math.Option.{some}
 use Rattle.rules.specs.Listing.{Entry}
-use Rattle.machine.specs.Machine.{event_width, as_lent, zeroed, Answer, no, listed_as, reported_as, found_as, depth_limit, Run, steps_of, ran_as, Request, list', step', report', search', timed', run', save', return', forget', Ask, open', open_steady', on', Part, size, lent_to, output_of, is_lent, Call}
+use Rattle.machine.specs.Machine.{event_width, as_lent, zeroed, Answer, no, listed_as, reported_as, found_as, depth_limit, count_limit, progress_as, Run, steps_of, ran_as, Request, list', step', report', search', timed', run', save', return', forget', begin', carry', Ask, open', open_steady', on', Part, size, lent_to, output_of, is_lent, Call}
 
 -- a request, not an opening
 unfoldable pub Runs : Ask → Type 0
@@ -22,6 +22,8 @@ Lists (run' ws vs n l) = ⊥
 Lists (save' n) = ⊥
 Lists (return' n) = ⊥
 Lists (forget' n) = ⊥
+Lists (begin' x d) = ⊥
+Lists (carry' n) = ⊥
 
 -- those that choose by a draw
 unfoldable pub Chooses : Request → Type 0
@@ -34,6 +36,8 @@ Chooses (run' ws vs n l) = ⊥
 Chooses (save' n) = ⊥
 Chooses (return' n) = ⊥
 Chooses (forget' n) = ⊥
+Chooses (begin' x d) = ⊥
+Chooses (carry' n) = ⊥
 
 -- 02, note 2: requests that ask 20
 unfoldable pub Names : Request → Type 0
@@ -46,23 +50,27 @@ Names (run' ws vs n l) = ⊥
 Names (save' n) = Unit {0}
 Names (return' n) = Unit {0}
 Names (forget' n) = Unit {0}
+Names (begin' x d) = ⊥
+Names (carry' n) = ⊥
 
--- 01, Listing and stepping: requests that move nothing where they are refused; R.7: a run keeps the steps that were accepted before
-unfoldable pub Whole : Request → Type 0
-Whole list' = Unit {0}
-Whole (step' d) = Unit {0}
-Whole report' = Unit {0}
-Whole (search' x d) = Unit {0}
-Whole (timed' ds d) = Unit {0}
-Whole (run' ws vs n l) = ⊥
-Whole (save' n) = Unit {0}
-Whole (return' n) = Unit {0}
-Whole (forget' n) = Unit {0}
+-- 01, Listing and stepping: requests that move nothing where they are refused under a number; R.7: a run keeps the steps that were accepted before; 02, note 10: carrying on moves nothing but under 27, which ends the search
+unfoldable pub Whole : Request → (number : ℕ) → Type 0
+Whole list' k = Unit {0}
+Whole (step' d) k = Unit {0}
+Whole report' k = Unit {0}
+Whole (search' x d) k = Unit {0}
+Whole (timed' ds d) k = Unit {0}
+Whole (run' ws vs n l) k = ⊥
+Whole (save' n) k = Unit {0}
+Whole (return' n) k = Unit {0}
+Whole (forget' n) k = Unit {0}
+Whole (begin' x d) k = Unit {0}
+Whole (carry' n) k = k ≡ 27 → ⊥
 
-unfoldable pub WholeAsk : Ask → Type 0
-WholeAsk (open' text) = ⊥
-WholeAsk (open_steady' text) = ⊥
-WholeAsk (on' r) = Whole r
+unfoldable pub WholeAsk : Ask → (number : ℕ) → Type 0
+WholeAsk (open' text) k = ⊥
+WholeAsk (open_steady' text) k = ⊥
+WholeAsk (on' r) k = Whole r k
 
 -- R.6: the numbers that a run ends with: 0 at its limit, without room and without words, else that of the step that was refused; 16 is not among them
 pub data RunEnds : ℕ → Type 0 where
@@ -119,3 +127,10 @@ pub data Carries : Ask → Answer → Type 0 where
   searches : {x : List ℕ} {d : ℕ} (r : List ℕ) → length r ≤ depth_limit → Carries (on' (search' x d)) (found_as r)
   under26 : {x : List ℕ} {d : ℕ} → Carries (on' (search' x d)) (no 26 0 0 as_lent)
   under27 : {x : List ℕ} {d : ℕ} → Carries (on' (search' x d)) (no 27 0 0 as_lent)
+  -- 02, note 10: a search is begun, or 26; carried on, it carries the count alone, or at its end the search's answer too, 27 among them; or 28
+  begins : {x : List ℕ} {d : ℕ} → Carries (on' (begin' x d)) (no 0 0 0 as_lent)
+  begin26 : {x : List ℕ} {d : ℕ} → Carries (on' (begin' x d)) (no 26 0 0 as_lent)
+  under-way : {n : ℕ} (c : ℕ) → c ≤ count_limit → Carries (on' (carry' n)) (progress_as 0 c 0 [])
+  ended : {n : ℕ} (c : ℕ) (r : List ℕ) → c ≤ count_limit → Carries (on' (carry' n)) (progress_as 0 c 1 r)
+  ended27 : {n : ℕ} (c : ℕ) → c ≤ count_limit → Carries (on' (carry' n)) (progress_as 27 c 1 [])
+  under28 : {n : ℕ} → Carries (on' (carry' n)) (no 28 0 0 as_lent)

@@ -19,7 +19,7 @@ use Rattle.machine.specs.Machine as machine
 use Rattle.machine.specs.Machine.{as_lent, Answer, no, found_as}
 
 -- one definition without parameters, whose sum is the first; the name of a token is its number
-abbrev model : List Resolved.Sum → Resolved.Model
+abbrev pub model : List Resolved.Sum → Resolved.Model
 model ss = record {
   sums = ss;
   definitions = record { params = 0; sums = 0 ∷ [] } ∷ [];
@@ -29,18 +29,18 @@ model ss = record {
 }
 
 -- {n,r}, and then these
-abbrev waits : ℕ → ℕ → List Resolved.Part → Resolved.Branch
+abbrev pub waits : ℕ → ℕ → List Resolved.Part → Resolved.Branch
 waits n r next = record { gate = none; action = Resolved.wait n; rate = Resolved.plain (Resolved.fixed (pos r)); next = next }
 
-abbrev sum : List Resolved.Branch → Resolved.Sum
+abbrev pub sum : List Resolved.Branch → Resolved.Sum
 sum bs = record { locals = 0; definition = 0; branches = bs }
 
 -- a process of the first sum
-abbrev one : State
+abbrev pub one : State
 one = record { processes = record { sum = 0; locals = []; definition = 0 } ∷ []; pairs = [] }
 
 -- a call with an argument that has no value, which 17 refuses
-abbrev lost : List Resolved.Part
+abbrev pub lost : List Resolved.Part
 lost = Resolved.call 0 (Resolved.binary divide (Resolved.constant (pos 1)) (Resolved.constant (pos 0)) ∷ []) ∷ []
 
 -- a rate beyond its range, which 12 refuses
@@ -52,11 +52,11 @@ abbrev searched : List Resolved.Sum → ℕ → ℕ → Answer
 searched ss n d = (machine.searches (n ∷ []) d (model ss) one).answer
 
 -- {1,1}.{2,1}
-abbrev chain : List Resolved.Sum
+abbrev pub chain : List Resolved.Sum
 chain = sum (waits 1 10000 (Resolved.enter 1 ∷ []) ∷ []) ∷ sum (waits 2 10000 [] ∷ []) ∷ []
 
 -- none, and a number alone
-abbrev nothing : Answer
+abbrev pub nothing : Answer
 nothing = no 0 0 0 as_lent
 
 pub rows :

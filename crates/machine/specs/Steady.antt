@@ -1,7 +1,7 @@
 -- What is promised of a text that the steady profile let through, up to the next opening (02, note 11): none of the calls meets 18, and no step raises the number of
 -- processes. Nothing in the machine says under which profile a text was opened. Assumes nothing: these are definitions.
 use Rattle.std.specs.Prelude.{◌≡◌, List, [], ◌∷◌, false, ◌⊎◌, ℕ, ◌≤◌, length}
-use Rattle.machine.specs.Machine.{Machine, closed, holding, Request, list', step', report', search', timed', run', save', return', forget', on', has_lengths, Call, calls}
+use Rattle.machine.specs.Machine.{Machine, closed, holding, Request, list', step', report', search', timed', run', save', return', forget', on', has_lengths, Call, calls, begin', carry'}
 use Rattle.machine.specs.Results.{Runs}
 
 -- how many processes there are
@@ -20,6 +20,8 @@ IsStep (run' ws vs n l) = Unit {0}
 IsStep (save' n) = ⊥
 IsStep (return' n) = ⊥
 IsStep (forget' n) = ⊥
+IsStep (begin' x d) = ⊥
+IsStep (carry' n) = ⊥
 
 -- a call that is no opening, or one that 1 refuses and that so opens nothing
 abbrev pub OpensNothing : Call → Type 0

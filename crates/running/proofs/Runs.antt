@@ -25,7 +25,7 @@ use Rattle.rules.specs.Draw.{weights, total}
 use Rattle.machine.specs.State.{State, GoodState}
 use Rattle.machine.specs.Timed.{Timed, timed, GoodTimed}
 use Rattle.machine.specs.Saves.{no_saves}
-use Rattle.machine.specs.Machine.{filled, zeroed, no, listed_as, Listed, entries_are, refused_with, listing, Turn, accepting, drawn, showing, lists, choosing, steps_with, steps_in, times_with, held_all, on_clock, timed', acts}
+use Rattle.machine.specs.Machine.{filled, zeroed, no, listed_as, Listed, entries_are, refused_with, listing, Turn, accepting, drawn, showing, lists, choosing, steps_with, steps_in, times_with, held_all, on_clock, timed', acts, GoodSearching}
 use Rattle.machine.specs.Questions.{Steps, no15, no16, no17, no18, no19, yes19, Times, no15-19, no23, no24, no25, yes25}
 use Rattle.machine.proofs.Branches.{nth-get}
 use Rattle.machine.proofs.Saves.{no-saves-hold}
@@ -209,5 +209,5 @@ module _ (m : Resolved.Model) (s : State) (k : Clock) (es : List Entry) (e : lis
 pub timed-good : (m : Resolved.Model) (s : State) (k : Clock) → GoodModel m → GoodState m s → InRange k → (ds : List ℕ) (d : ℕ) → GoodTimed m (times_with ds d m s k).machine
 unfolding acts on_clock
 timed-good m s k g h i ds d =
-    let a = acts-good (timed' ds d) (held_all m s no_saves k) g (record { state = h; saves = no-saves-hold (GoodTimed m); clock = i }) in
+    let a = acts-good (timed' ds d) (held_all m s no_saves k) g (record { state = h; saves = no-saves-hold (GoodTimed m); clock = i; search = unfold GoodSearching in tt }) in
     record { state = a.state; clock = a.clock }

@@ -194,3 +194,9 @@ module _ {S : Type 0} (ways : S → Listed S) (s : S) (d : ℕ) where
   -- note 10: carried on by any numbers from the beginning
   pub stepwise : (ns : List ℕ) → Carries 0 (sum ns) (calls ways s d ns (under 0 begun))
   stepwise ns = subst (λ (x : Carried). Carries 0 (sum ns) x) (sym (calls-sum ns (under 0 begun))) (carries (sum ns) 0 begun stands-begun)
+
+  -- carrying on keeps where a search stands
+  pub stands-carry : (n : ℕ) (x : Carried) → Stands x → Stands (carry ways s d n x)
+  unfolding carry
+  stands-carry zero x f = f
+  stands-carry (suc n) x f = stands-carry n _ (stands-turn x f)

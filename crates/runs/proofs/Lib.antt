@@ -4,5 +4,7 @@ pub mod Walk
 pub mod Judged
 pub mod Later
 pub mod Carried
-pub mod Calls
+pub mod Count
+pub mod Positions
+pub mod Marks
 pub mod Alike

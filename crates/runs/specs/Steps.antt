@@ -1,4 +1,4 @@
--- A search that is carried on by a number of states in each call (02, note 10). Definitions only.
+-- A search that is carried on by a number of states in each call, by the run that is walked next (02, note 10); Marks, which keeps the run walked last, is proved to go alike. Definitions only.
 use Rattle.std.specs.Prelude.{List, [], ◌∷◌, Bool, true, false, cond, ℕ, zero, suc}
 use Rattle.runs.specs.Tree.{Listed, Answer, found}
 use Rattle.runs.specs.Walk.{Event, meets, reaches, later, ending, Next, lost, finds, met_before, next_of}

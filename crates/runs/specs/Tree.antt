@@ -1,5 +1,5 @@
 -- What a search goes over and answers, said without the functions that walk it (02, notes 8 and 9). Definitions only.
-use Rattle.std.specs.Prelude.{◌≡◌, Bool, true, ◌⊎◌, ℕ, ◌≤◌, ◌<◌, length, get_or}
+use Rattle.std.specs.Prelude.{◌≡◌, map, Bool, true, false, ◌⊎◌, ◌↔◌, ℕ, ◌≤◌, ◌<◌, length, get_or}
 use mathlib.Core.List.{List, [], ◌∷◌, Memᴰ as In}
 
 -- note 9: entry numbers compared from the left
@@ -74,6 +74,16 @@ unfoldable pub way_in : {S : Type 0} → Listed S → ℕ → Way S
 way_in unlisted e = idle
 way_in (lists ws) e = get_or ws e idle
 
+-- 02, note 10: the same, where no entry is the wait
+unfoldable pub way_unsought : {S : Type 0} → Way S → Way S
+way_unsought idle = idle
+way_unsought refused = refused
+way_unsought (leads h t) = leads false t
+
+unfoldable pub unsought : {S : Type 0} → Listed S → Listed S
+unsought unlisted = unlisted
+unsought (lists ws) = lists (map way_unsought ws)
+
 module _ {S : Type 0} (ways : S → Listed S) where
   -- note 8: entry e is above weight zero and taken unrefused
   abbrev pub Takes : S → ℕ → Bool → S → Type 0
@@ -103,3 +113,16 @@ module _ {S : Type 0} (ways : S → Listed S) where
 unfoldable pub Ascending : {A : Type 0} → (A → A → Type 0) → List A → Type 0
 Ascending R [] = Unit {0}
 Ascending {A} R (x ∷ xs) = ((y : A) → In y xs → R x y) × Ascending R xs
+
+-- note 10: which runs come up to what is answered: the one that is found and those before it; all, where none is
+unfoldable pub UpTo : Answer → List ℕ → Type 0
+UpTo (found r) q = (q ≡ r) ⊎ Before q r
+UpTo nothing q = Unit {0}
+UpTo unsure q = Unit {0}
+
+-- note 10: how many runs within the depth come up to what is answered: just these, each once
+pub record CountOf {S : Type 0} (ways : S → Listed S) (s : S) (d : ℕ) (a : Answer) (n : ℕ) : Type 0 where
+  pub runs : List (List ℕ)
+  pub ascends : Ascending Before runs
+  pub exact : (q : List ℕ) → In q runs ↔ (((u : S) × Run ways s q u) × (length q ≤ d) × UpTo a q)
+  pub many : n ≡ length runs

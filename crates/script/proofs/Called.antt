@@ -3,7 +3,7 @@
 use mathlib.Core.Path.{◌≡◌, refl, sym, ap, ap₂, subst, ◌∙◌}
 use mathlib.Core.Bool.{Bool, true, false, cond, ◌&&◌}
 use mathlib.Core.List.{List, [], ◌∷◌, ◌++◌, append_assoc}
-use mathlib.Core.Option.{none, some}
+use mathlib.Core.Option.{Option, none, some}
 use Prim.Native.Nat.{ℕ, zero, suc, ◌+◌, ◌*◌, ◌≤◌}
 use native.Mathlib.Omega.{arith}
 use borrow.Author.Tests.{leb-true, eqb-true, eqb-false}
@@ -19,7 +19,7 @@ use Rattle.machine.specs.State.{State}
 use Rattle.machine.specs.Timed.{timed}
 use Rattle.machine.specs.Report.{report_length}
 use Rattle.machine.specs.Machine.{entry_limit, listing_length, event_width, Event, Shown, as_lent, zeroed, filled, reported, happened, Answer, no, listed_as, reported_as, Listed, Turn, turn, drawn, showing, lists, sharing, reports, choosing, steps_with, refused_as, with_wait, steps_in, times_with, ran_as, runs_over, Held, Good, Machine, closed, holding, on_state}
-use Rattle.machine.specs.Machine.{on_clock, on_saves, Request, list', step', report', search', timed', run', save', return', forget', Ask, open', open_steady', on', acts, Part, model, state, saves, clock, size, lent_to, output_of, uses, is_lent, all_parts, has_lengths, Call, opens, on_machine, calls}
+use Rattle.machine.specs.Machine.{on_clock, on_saves, Request, list', step', report', search', timed', run', save', return', forget', begin', carry', on_search, Search, Ask, open', open_steady', on', acts, Part, model, state, saves, clock, search, size, lent_to, output_of, uses, is_lent, all_parts, has_lengths, Call, opens, on_machine, calls}
 use Rattle.machine.specs.Machine as machine
 use Rattle.machine.specs.Runs.{event_row, event_rows, event_numbers}
 use Rattle.machine.specs.Questions.{Lists, no12, no13, no14, yes14}
@@ -44,6 +44,8 @@ use Rattle.buffers.proofs.Held.{held_fits}
 use Rattle.buffers.proofs.Listings.{listing-length}
 use Rattle.buffers.proofs.Transitions.{fills}
 use Rattle.buffers.proofs.Answers.{search-shows}
+use Rattle.buffers.proofs.Pieces as pieces
+use Rattle.buffers.proofs.Pieces.{Walked, begins-walked, carries-walked}
 use Rattle.script.specs.declared.Row.{Row}
 use Rattle.script.specs.Rows.{open_kind, last_kind, answer_width, output_width, row_parts, row_lengths, Room, fits, row_call, call_of}
 use Rattle.script.specs.Run.{Lent, room_of, effect_of, call_left}
@@ -65,6 +67,7 @@ in_row model = refl
 in_row state = refl
 in_row saves = refl
 in_row clock = refl
+in_row search = refl
 
 -- what a row that fits asks for
 pub record Asks (r : Row) (texts numbers words : ℕ) (parts : Part → ℕ) (outputs : ℕ) : Type 0 where
@@ -276,8 +279,13 @@ run-within : (ws vs : List ℕ) (n l : ℕ) (h : Held) → InPart (on' (run' ws 
 unfolding acts on_clock runs_over ran_as
 run-within ws vs n l h = within l refl (unfold Spans in (run-carries ws vs n l h.model h.state h.clock).room)
 
+-- 02, note 10: a search that is begun or carried on shows nothing
+pub walked-shows : {o : Option Search} {t : Turn (Option Search)} → Walked o t → t.answer.listing ≡ as_lent
+walked-shows (pieces.goes a e) = e
+walked-shows (pieces.stays a e f) = e
+
 acts-within : (r : Request) (h : Held) → GoodModel h.model → Good h → InPart (on' r) (acts r h).answer.listing
-unfolding acts on_state on_clock on_saves no
+unfolding acts on_state on_clock on_saves on_search no
 acts-within list' h k g = lists-within h.model h.state
 acts-within (step' d) h k g = steps-within d h.model h.state
 acts-within report' h k g = reports-within h k g
@@ -287,6 +295,8 @@ acts-within (run' ws vs n l) h k g = run-within ws vs n l h
 acts-within (save' n) h k g = nothing refl
 acts-within (return' n) h k g = nothing refl
 acts-within (forget' n) h k g = nothing refl
+acts-within (begin' n d) h k g = nothing (walked-shows (begins-walked n d h.model h.state h.search))
+acts-within (carry' n) h k g = nothing (walked-shows (carries-walked n h.model h.search))
 
 opening-shows : (o : Opening) → (opens o).answer.listing ≡ as_lent
 unfolding opens no

@@ -9,14 +9,14 @@ use borrow.Author.Tests.{le-leb, lt-leb}
 use lib.IntN.{ℤ}
 use lib.ListN.{length, take, drop, length-drop}
 use lib.Seq.{take-take}
-use Rattle.machine.specs.Machine.{Part, model, state, saves, clock, Call}
+use Rattle.machine.specs.Machine.{Part, model, state, saves, clock, search, Call}
 use Rattle.clock.specs.declared.Clock.{Clock}
-use Rattle.buffers.specs.Parts.{Engine, clock_numbers, clock_in, lent_all}
+use Rattle.buffers.specs.Parts.{Engine, clock_numbers, clock_in, lent_whole}
 use Rattle.buffers.specs.Effect.{Effect, effect}
 use Rattle.buffers.proofs.Lent.{same-engine}
 use Rattle.script.specs.declared.Row.{Row}
 use Rattle.script.specs.Rows.{row_width, answer_width, row_of, row_lengths, fits, row_call, call_of, first_call}
-use Rattle.script.specs.Run.{Lent, lent_four, lent_of, room_of, effect_of, answer_numbers, call_left, Called, RowRan}
+use Rattle.script.specs.Run.{Lent, lent_five, lent_of, room_of, effect_of, answer_numbers, call_left, Called, RowRan}
 
 module _ (script texts numbers words : List ℕ) (x : Lent) where
   abbrev Runs : Bool → Lent → Type 0
@@ -69,22 +69,23 @@ clock-whole (a ∷ []) h = absurd (omega arith)
 clock-whole (a ∷ b ∷ cs) h = refl
 
 -- a call that is given the clock, on the numbers of a clock
-module _ (texts numbers words : List ℕ) (row : Row) (bs : List ℕ) (zs ss : List ℤ) (cs ls ns : List ℕ) (bs' : List ℕ) (zs' ss' : List ℤ) (c' : Clock) (cs' ls' : List ℕ) where
+module _ (texts numbers words : List ℕ) (row : Row) (bs : List ℕ) (zs ss : List ℤ) (cs : List ℕ) (xs : List ℤ) (ls ns : List ℕ) (bs' : List ℕ) (zs' ss' : List ℤ) (c' : Clock) (cs' : List ℕ) (xs' : List ℤ) (ls' : List ℕ) where
   abbrev C : Call
   C = row_call texts numbers words row
 
   abbrev given : Effect
-  given = effect_of C (lent_all bs zs ss (clock_in cs)) ls
+  given = effect_of C (lent_whole bs zs ss (clock_in cs) xs) ls
 
   abbrev lent : Effect
-  lent = effect_of C (lent_four bs zs ss cs) ls
+  lent = effect_of C (lent_five bs zs ss cs xs) ls
 
   module _ (h : 2 ≤ length cs) where
-    lent_same : (p : Part) → take (C.lengths p) (lent_all bs zs ss (clock_in cs) p) ≡ take (C.lengths p) (lent_four bs zs ss cs p)
-    lent_same model = unfold lent_all lent_four in refl
-    lent_same state = unfold lent_all lent_four in refl
-    lent_same saves = unfold lent_all lent_four in refl
-    lent_same clock = unfold lent_all lent_four row_call row_lengths in ap (take 2) (clock-numbers cs h) ∙ take-take 2 2 cs (omega arith)
+    lent_same : (p : Part) → take (C.lengths p) (lent_whole bs zs ss (clock_in cs) xs p) ≡ take (C.lengths p) (lent_five bs zs ss cs xs p)
+    lent_same model = unfold lent_whole lent_five in refl
+    lent_same state = unfold lent_whole lent_five in refl
+    lent_same saves = unfold lent_whole lent_five in refl
+    lent_same search = unfold lent_whole lent_five in refl
+    lent_same clock = unfold lent_whole lent_five row_call row_lengths in ap (take 2) (clock-numbers cs h) ∙ take-take 2 2 cs (omega arith)
 
     same : given ≡ lent
     unfolding effect_of
@@ -94,23 +95,24 @@ module _ (texts numbers words : List ℕ) (row : Row) (bs : List ℕ) (zs ss : L
     left-same p = ap (λ (w : Effect). w.left p) same
 
     -- the clock's own numbers, all that a call leaves there
-    clock-left : Called C (lent_all bs zs ss (clock_in cs)) ls ns (lent_all bs' zs' ss' c') ls' → clock_numbers c' ≡ given.left clock
-    unfolding lent_all row_call row_lengths
+    clock-left : Called C (lent_whole bs zs ss (clock_in cs) xs) ls ns (lent_whole bs' zs' ss' c' xs') ls' → clock_numbers c' ≡ given.left clock
+    unfolding lent_whole row_call row_lengths
     clock-left k = k.engine clock ∙ append-nil _
 
-    pub clock-called : Called C (lent_all bs zs ss (clock_in cs)) ls ns (lent_all bs' zs' ss' c') ls' → cs' ≡ clock_numbers c' ++ drop 2 cs
-        → Called C (lent_four bs zs ss cs) ls ns (lent_four bs' zs' ss' cs') ls'
+    pub clock-called : Called C (lent_whole bs zs ss (clock_in cs) xs) ls ns (lent_whole bs' zs' ss' c' xs') ls' → cs' ≡ clock_numbers c' ++ drop 2 cs
+        → Called C (lent_five bs zs ss cs xs) ls ns (lent_five bs' zs' ss' cs' xs') ls'
     clock-called k e = record {
       numbers = k.numbers ∙ ap (λ (w : Effect). answer_numbers w.answer) same;
       engine = at;
       outputs = k.outputs ∙ ap (λ (w : Effect). w.output ++ drop C.output ls) same;
     }
       where
-        at : (p : Part) → lent_four bs' zs' ss' cs' p ≡ lent.left p ++ drop (C.lengths p) (lent_four bs zs ss cs p)
-        at model = unfold lent_all lent_four in k.engine model ∙ ap (λ (l : List ℕ). l ++ drop (C.lengths model) bs) (left-same model)
-        at state = unfold lent_all lent_four in k.engine state ∙ ap (λ (l : List ℤ). l ++ drop (C.lengths state) zs) (left-same state)
-        at saves = unfold lent_all lent_four in k.engine saves ∙ ap (λ (l : List ℤ). l ++ drop (C.lengths saves) ss) (left-same saves)
-        at clock = unfold lent_four row_call row_lengths in e ∙ ap (λ (l : List ℕ). l ++ drop 2 cs) (clock-left k ∙ left-same clock)
+        at : (p : Part) → lent_five bs' zs' ss' cs' xs' p ≡ lent.left p ++ drop (C.lengths p) (lent_five bs zs ss cs xs p)
+        at model = unfold lent_whole lent_five in k.engine model ∙ ap (λ (l : List ℕ). l ++ drop (C.lengths model) bs) (left-same model)
+        at state = unfold lent_whole lent_five in k.engine state ∙ ap (λ (l : List ℤ). l ++ drop (C.lengths state) zs) (left-same state)
+        at saves = unfold lent_whole lent_five in k.engine saves ∙ ap (λ (l : List ℤ). l ++ drop (C.lengths saves) ss) (left-same saves)
+        at search = unfold lent_whole lent_five in k.engine search ∙ ap (λ (l : List ℤ). l ++ drop (C.lengths search) xs) (left-same search)
+        at clock = unfold lent_five row_call row_lengths in e ∙ ap (λ (l : List ℕ). l ++ drop 2 cs) (clock-left k ∙ left-same clock)
 
 -- the call and the answer together
 pub call-left : (c : Call) (x : Engine) (ls ns qs : List ℕ) (x' : Engine) (ls' ns' : List ℕ)

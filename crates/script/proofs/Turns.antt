@@ -10,10 +10,10 @@ use borrow.Author.Tests.{leb-true, leb-false, lt-leb}
 use lib.Dec.{leb}
 use lib.ListN.{length, take, drop, length-drop, take-append-drop}
 use lib.Seq.{drop-drop, take-add}
-use Rattle.machine.specs.Machine.{Part, model, state, saves, clock, Call}
+use Rattle.machine.specs.Machine.{Part, model, state, saves, clock, search, Call}
 use Rattle.script.specs.declared.Lent as declared
 use Rattle.script.specs.Rows.{row_width, answer_width, output_width, row_of, rows, rows_of, Room, room_after, call_of, first_call, calls_of, calls_in}
-use Rattle.script.specs.Run.{Lent, lent_four, lent_of, held, Kept, room_of, call_left, next_lent, joined, run_left, RowRan, put_at, lent_from, RowRanAt, Ran}
+use Rattle.script.specs.Run.{Lent, lent_five, lent_of, held, Kept, room_of, call_left, next_lent, joined, run_left, RowRan, put_at, lent_from, RowRanAt, Ran}
 
 -- ---- the first row of a script, and the others
 
@@ -54,13 +54,14 @@ pub record Long (x y : Lent) : Type 0 where
 
 -- where the lent buffers are kept
 pub kept-long : (l k : declared.Lent) → Kept l k → Long (held l) (held k)
-kept-long l k s = record { parts = at; outputs = s.1.1.1.1.0.1; answers = s.1.1.1.1.1.1 }
+kept-long l k s = record { parts = at; outputs = s.1.1.1.1.1.0.1; answers = s.1.1.1.1.1.1.1 }
   where
     at : (p : Part) → length ((held k).engine p) ≡ length ((held l).engine p)
-    at model = unfold lent_four in s.0.1
-    at state = unfold lent_four in s.1.0.1
-    at saves = unfold lent_four in s.1.1.0.1
-    at clock = unfold lent_four in s.1.1.1.0.1
+    at model = unfold lent_five in s.0.1
+    at state = unfold lent_five in s.1.0.1
+    at saves = unfold lent_five in s.1.1.0.1
+    at search = unfold lent_five in s.1.1.1.0.1
+    at clock = unfold lent_five in s.1.1.1.1.0.1
 
 -- what rows before i have written, then what the others are lent and leave
 abbrev onto : ℕ → Lent → Lent → Lent

@@ -1,14 +1,14 @@
--- A script: twelve numbers a row, each row a call on what is lent (01, Rule machine: texts, draws, and the lengths of all that is lent). Definitions only.
+-- A script: thirteen numbers a row, each row a call on what is lent (01, Rule machine: texts, draws, and the lengths of all that is lent). Definitions only.
 use Rattle.std.specs.Prelude.{Bool, cond, ◌&&◌, List, [], ◌∷◌, ℕ, zero, suc, ◌+◌, ◌-◌, ◌/◌, eqb, leb, length, get_or, take, drop}
 use Rattle.std.proofs.Math.Option.{Option, none, some, Option-elim}
-use Rattle.machine.specs.Machine.{list', step', report', search', timed', run', save', return', forget', Ask, open', open_steady', on', Part, model, state, saves, clock, size, all_parts, Call, call}
+use Rattle.machine.specs.Machine.{list', step', report', search', timed', run', save', return', forget', begin', carry', Ask, open', open_steady', on', Part, model, state, saves, clock, search, size, all_parts, Call, call}
 use Rattle.script.specs.declared.Kind.{Kind}
-use Rattle.script.specs.declared.Kind.TheVariants.{Open, List as Listing, Step, Report, Save, Return, Forget, Timed, Steady, Search, Run}
+use Rattle.script.specs.declared.Kind.TheVariants.{Open, List as Listing, Step, Report, Save, Return, Forget, Timed, Steady, Search, Run, Begin, Carry}
 use Rattle.script.specs.declared.Row.{Row}
 
 -- numbers of a row, of an answer, and of a row's part of the outputs: a listing, a report, or 1,024 events of a run
 abbrev pub row_width : ℕ
-row_width = 12
+row_width = 13
 
 abbrev pub answer_width : ℕ
 answer_width = 18
@@ -50,8 +50,14 @@ search_kind = 10
 abbrev pub run_kind : ℕ
 run_kind = 11
 
+abbrev pub begin_kind : ℕ
+begin_kind = 12
+
+abbrev pub carry_kind : ℕ
+carry_kind = 13
+
 abbrev pub last_kind : ℕ
-last_kind = run_kind
+last_kind = carry_kind
 
 -- the numbers of kinds, which stand one after the other
 unfoldable pub is_kind : ℕ → Bool
@@ -70,10 +76,12 @@ kind_number Timed = timed_kind
 kind_number Steady = steady_kind
 kind_number Search = search_kind
 kind_number Run = run_kind
+kind_number Begin = begin_kind
+kind_number Carry = carry_kind
 
 -- ---- rows
 
--- kind; place and size of a text or name, and of a list of waiting draws; a draw, a depth or a limit; how many numbers of the output and of each part are lent; place and size of a list of words
+-- kind; place and size of a text or name, and of a list of waiting draws; a draw, a depth, a limit or a number of states; how many numbers of the output and of each part are lent; place and size of a list of words
 unfoldable pub row_of : List ℕ → Row
 row_of l = record {
   kind = get_or l 0 0;
@@ -86,8 +94,9 @@ row_of l = record {
   model = get_or l 7 0;
   state = get_or l 8 0;
   saves = get_or l 9 0;
-  start = get_or l 10 0;
-  words = get_or l 11 0;
+  search = get_or l 10 0;
+  start = get_or l 11 0;
+  words = get_or l 12 0;
 }
 
 -- so many rows, one after the other
@@ -101,7 +110,7 @@ rows_of l = rows (length l / row_width) l
 
 -- the parts of the engine, in the order of a row
 abbrev pub row_parts : List Part
-row_parts = model ∷ state ∷ saves ∷ clock ∷ []
+row_parts = model ∷ state ∷ saves ∷ clock ∷ search ∷ []
 
 -- how many numbers of each a row lends; 02, note 4: the clock is lent whole
 unfoldable pub row_lengths : Row → Part → ℕ
@@ -109,6 +118,7 @@ row_lengths r model = r.model
 row_lengths r state = r.state
 row_lengths r saves = r.saves
 row_lengths r clock = size clock
+row_lengths r search = r.search
 
 -- ---- calls
 
@@ -141,19 +151,21 @@ row_draws numbers r = take r.count (drop r.from numbers)
 unfoldable pub row_words : List ℕ → Row → List ℕ
 row_words words r = take r.words (drop r.start words)
 
--- 01, Rule machine: what a row that fits asks: a text or a draw; 02, note 11: or a text under the steady profile; note 2: or a name; note 4: or waiting draws and a draw; note 8: or a name and a depth; R.6: or words, waiting draws and a limit, with the length of the events' buffer
+-- 01, Rule machine: what a row that fits asks: a text or a draw; 02, note 11: or a text under the steady profile; note 2: or a name; note 4: or waiting draws and a draw; notes 8 and 10: or a name and a depth; note 10: or a number of states; R.6: or words, waiting draws and a limit, with the length of the events' buffer
 unfoldable pub row_ask : (texts numbers words : List ℕ) → Row → Ask
 row_ask texts numbers words r =
     cond (eqb r.kind open_kind) (open' (row_text texts r))
     (cond (eqb r.kind steady_kind) (open_steady' (row_text texts r))
     (cond (eqb r.kind search_kind) (on' (search' (row_text texts r) r.number))
+    (cond (eqb r.kind begin_kind) (on' (begin' (row_text texts r) r.number))
+    (cond (eqb r.kind carry_kind) (on' (carry' r.number))
     (cond (eqb r.kind run_kind) (on' (run' (row_words words r) (row_draws numbers r) r.number r.output))
     (cond (eqb r.kind list_kind) (on' list')
     (cond (eqb r.kind report_kind) (on' report')
     (cond (eqb r.kind step_kind) (on' (step' r.number))
     (cond (eqb r.kind timed_kind) (on' (timed' (row_draws numbers r) r.number))
     (cond (eqb r.kind save_kind) (on' (save' (row_text texts r)))
-    (cond (eqb r.kind return_kind) (on' (return' (row_text texts r))) (on' (forget' (row_text texts r))))))))))))
+    (cond (eqb r.kind return_kind) (on' (return' (row_text texts r))) (on' (forget' (row_text texts r))))))))))))))
 
 -- 01, Rule machine: its call, with the lengths of what is lent
 unfoldable pub row_call : (texts numbers words : List ℕ) → Row → Call

@@ -2,11 +2,12 @@
 use Rattle.std.specs.Prelude.{◌≡◌, Bool, true, false, List, [], ◌∷◌, ◌++◌, ℕ, ◌*◌, ℤ, length, get_or, take, drop}
 use Rattle.std.specs.Borrow.{MutBor}
 use Rattle.std.proofs.Math.Option.{Option, none, some}
-use Rattle.machine.specs.Machine.{Answer, Part, model, state, saves, clock, Call}
+use Rattle.machine.specs.Machine.{Answer, Part, model, state, saves, clock, search, Call}
 use Rattle.buffers.specs.Parts.{Engine}
 use Rattle.buffers.specs.Effect.{Effect, effect}
 use Rattle.searching.specs.declared.Found.{Found}
 use Rattle.searching.specs.Run.{entries_of}
+use Rattle.resuming.specs.declared.Progress.{Progress}
 use Rattle.engine.specs.declared.Answer as engine
 use Rattle.engine.specs.declared.Ran.{Ran as Told}
 use Rattle.script.specs.declared.Lent as declared
@@ -26,15 +27,16 @@ unfoldable pub room_of : Lent → Room
 room_of x = record { parts = λ (p : Part). length (x.engine p); outputs = length x.outputs; answers = length x.answers }
 
 -- the engine of a run, part by part
-unfoldable pub lent_four : List ℕ → List ℤ → List ℤ → List ℕ → Engine
-lent_four bs zs ss cs model = bs
-lent_four bs zs ss cs state = zs
-lent_four bs zs ss cs saves = ss
-lent_four bs zs ss cs clock = cs
+unfoldable pub lent_five : List ℕ → List ℤ → List ℤ → List ℕ → List ℤ → Engine
+lent_five bs zs ss cs xs model = bs
+lent_five bs zs ss cs xs state = zs
+lent_five bs zs ss cs xs saves = ss
+lent_five bs zs ss cs xs clock = cs
+lent_five bs zs ss cs xs search = xs
 
 -- what the code's struct of them holds
 abbrev pub held : declared.Lent → Lent
-held l = lent_of (lent_four l.model.now l.state.now l.saves.now l.clock.now) l.outputs.now l.answers.now
+held l = lent_of (lent_five l.model.now l.state.now l.saves.now l.clock.now l.search.now) l.outputs.now l.answers.now
 
 -- a lent buffer is the one that it was, of as many numbers
 abbrev pub Same : {A : Type 0} → MutBor (List A) → MutBor (List A) → Type 0
@@ -42,17 +44,17 @@ Same r q = (q.ghost_name ≡ r.ghost_name) × (length q.now ≡ length r.now)
 
 -- and so each of the struct's
 abbrev pub Kept : declared.Lent → declared.Lent → Type 0
-Kept l k = Same l.model k.model × (Same l.state k.state × (Same l.saves k.saves × (Same l.clock k.clock × (Same l.outputs k.outputs × Same l.answers k.answers))))
+Kept l k = Same l.model k.model × (Same l.state k.state × (Same l.saves k.saves × (Same l.search k.search × (Same l.clock k.clock × (Same l.outputs k.outputs × Same l.answers k.answers)))))
 
 -- 01, Opening a text, Listing and stepping: what a call answers and leaves, which is lent the first numbers of each part and of the outputs
 unfoldable pub effect_of : Call → Engine → List ℕ → Effect
 effect_of c x ls = effect c.ask (λ (p : Part). take (c.lengths p) (x p)) (take c.output ls)
 
--- R.5: the steps, words and waiting draws that a run used; a call that used nothing says 0
+-- R.5: the steps, words and waiting draws that a run used; 02, note 10: whether a search that is carried on has ended; any other call says 0
 unfoldable pub used_of : List ℕ → List ℕ
 used_of us = get_or us 0 0 ∷ get_or us 1 0 ∷ get_or us 2 0 ∷ []
 
--- 01, Rule machine: the numbers that an answer carries; 02, note 8: with the length of its run and eight entry numbers; R.5: and what a run of timed steps used
+-- 01, Rule machine: the numbers that an answer carries; 02, note 8: with the length of its run and eight entry numbers; R.5: and what a run of timed steps used, 02, note 10: or whether a search that is carried on has ended
 unfoldable pub answer_numbers : Answer → List ℕ
 answer_numbers a = a.number ∷ a.place ∷ a.branch ∷ a.count ∷ a.total ∷ a.chosen ∷ length a.run ∷ (entries_of a.run ++ used_of a.used)
 
@@ -107,6 +109,12 @@ found_numbers f =
 -- R.5, R.7: those of a run of timed steps
 unfoldable pub ran_numbers : Told → List ℕ
 ran_numbers r = r.number ∷ 0 ∷ 0 ∷ r.count ∷ r.total ∷ 0 ∷ 0 ∷ 0 ∷ 0 ∷ 0 ∷ 0 ∷ 0 ∷ 0 ∷ 0 ∷ 0 ∷ r.steps ∷ r.words ∷ r.waiting ∷ []
+
+-- 02, note 10: those of carrying a search on: its count among the six, and after the run whether it has ended
+unfoldable pub progress_numbers : Progress → List ℕ
+progress_numbers p =
+    p.number ∷ 0 ∷ 0 ∷ p.count ∷ 0 ∷ 0 ∷ p.length ∷ get_or p.run 0 0 ∷ get_or p.run 1 0 ∷ get_or p.run 2 0 ∷ get_or p.run 3 0
+    ∷ get_or p.run 4 0 ∷ get_or p.run 5 0 ∷ get_or p.run 6 0 ∷ get_or p.run 7 0 ∷ p.ended ∷ 0 ∷ 0 ∷ []
 
 -- one call: the numbers ns of its result, and the buffers of which it was lent the first numbers
 pub record Called (c : Call) (x : Engine) (ls ns : List ℕ) (x' : Engine) (ls' : List ℕ) : Type 0 where

@@ -1,19 +1,20 @@
 #![tactic(auto)]
 
-// A script of calls on one engine: twelve numbers a row, run in order on lent buffers.
+// A script of calls on one engine: thirteen numbers a row, run in order on lent buffers.
 ghost use Rattle.std.specs.Prelude.{◌≡◌, true, false, ◌+◌, ◌-◌, ◌≤◌, leb, length, MatchResult};
-ghost use Rattle.buffers.specs.Parts.{lent_all};
+ghost use Rattle.buffers.specs.Parts.{lent_whole};
 ghost use Rattle.buffers.specs.Effect.{effect};
 ghost use Rattle.script.specs.Rows.{answer_width, row_of, kind_number, is_kind, fits, row_ask, row_call};
-ghost use Rattle.script.specs.Run.{lent_four, lent_of, held, Kept, lent_at, put_at, room_of, call_left, all_numbers, result_numbers, found_numbers, ran_numbers, Makes, RowRanAt, Ran};
+ghost use Rattle.script.specs.Run.{lent_five, lent_of, held, Kept, lent_at, put_at, room_of, call_left, all_numbers, result_numbers, found_numbers, ran_numbers, progress_numbers, Makes, RowRanAt, Ran};
 ghost use Rattle.script.specs.Follows.{Refines};
 
 use clock::Clock;
-use engine::{Answer, Simulated, Timed};
+use engine::{Answer, Simulated, Timed, searches};
+use resuming::Progress;
 use searching::Found;
 
-// A row: the kind of call; place and size of its text or name, and of its waiting draws; its draw, depth or limit; how many numbers of the output, the model, the state and the saves it is lent; place and size of its words.
-// A script is lent as plain numbers, so that a row may be any twelve, and is a call or none.
+// A row: the kind of call; place and size of its text or name, and of its waiting draws; its draw, depth, limit or number of states; how many numbers of the output, the model, the state, the saves and the search it is lent; place and size of its words.
+// A script is lent as plain numbers, so that a row may be any thirteen, and is a call or none.
 #[derive(Clone, Copy)]
 pub struct Row {
     pub kind: u64,
@@ -26,13 +27,14 @@ pub struct Row {
     pub model: usize,
     pub state: usize,
     pub saves: usize,
+    pub search: usize,
     pub start: usize,
     pub words: usize,
 }
 
 impl Row {
     // Numbers of a row, and of an answer.
-    pub const WIDTH: usize = 12;
+    pub const WIDTH: usize = 13;
 
     pub const ANSWER: usize = 18;
 
@@ -64,6 +66,10 @@ impl Row {
     pub const SEARCH: u64 = 10;
 
     pub const RUN: u64 = 11;
+
+    pub const BEGIN: u64 = 12;
+
+    pub const CARRY: u64 = 13;
 }
 
 // What the rows of a script name parts of: texts, waiting draws and words.
@@ -80,6 +86,7 @@ struct Lent<'a> {
     model: &'a mut [u8],
     state: &'a mut [i64],
     saves: &'a mut [i64],
+    search: &'a mut [i64],
     clock: &'a mut [u64],
     outputs: &'a mut [u64],
     answers: &'a mut [u64],
@@ -99,6 +106,8 @@ enum Kind {
     Steady,
     Search,
     Run,
+    Begin,
+    Carry,
 }
 
 // A number that is no kind's.
@@ -125,6 +134,8 @@ impl TryFrom<u64> for Kind {
             Row::STEADY => Ok(Kind::Steady),
             Row::SEARCH => Ok(Kind::Search),
             Row::RUN => Ok(Kind::Run),
+            Row::BEGIN => Ok(Kind::Begin),
+            Row::CARRY => Ok(Kind::Carry),
             _ => Err(NoKind),
         }
     }
@@ -138,7 +149,7 @@ struct Reply {
 }
 
 impl Reply {
-    // The numbers of an answer, of the run that a search found, and of what a run of steps used. Number by number, as all_numbers lists them: by cuts it would be three
+    // The numbers of an answer, of the run that a search found, and of what a run of steps used, or whether a search has ended. Number by number, as all_numbers lists them: by cuts it would be three
     // copies over zeros.
     #[tactic(auto, unfolding(crate::specs::Run::all_numbers))]
     fn of(
@@ -225,7 +236,21 @@ fn found_reply(found: Found, clock: Clock) -> Reply
     )
 }
 
-// The row of twelve numbers.
+// What carrying a search on tells, which leaves the clock.
+#[tactic(auto, unfolding(crate::specs::Run::all_numbers, crate::specs::Run::progress_numbers))]
+fn progress_reply(progress: Progress, clock: Clock) -> Reply
+    ensures { (result.numbers ≡ progress_numbers progress) × (result.clock ≡ clock) }
+{
+    Reply::of(
+        Answer::filled(progress.number, progress.count, 0, 0),
+        progress.length,
+        progress.run,
+        [progress.ended, 0, 0],
+        clock,
+    )
+}
+
+// The row of thirteen numbers.
 impl From<&[u64; Row::WIDTH]> for Row {
     ghost from_gives = { λ l r. r ≡ row_of l.now };
 
@@ -242,8 +267,9 @@ impl From<&[u64; Row::WIDTH]> for Row {
             model: numbers[7] as usize,
             state: numbers[8] as usize,
             saves: numbers[9] as usize,
-            start: numbers[10] as usize,
-            words: numbers[11] as usize,
+            search: numbers[10] as usize,
+            start: numbers[11] as usize,
+            words: numbers[12] as usize,
         }
     }
 }
@@ -264,20 +290,21 @@ fn make(
     model: &mut [u8],
     state: &mut [i64],
     saves: &mut [i64],
+    search: &mut [i64],
     outputs: &mut [u64],
     clock: Clock,
 ) -> Reply
     requires kind { kind_number kind ≡ row.kind }
     requires named { (row.text + row.size ≤ length given.texts.now) × ((row.from + row.count ≤ length given.numbers.now) × (row.start + row.words ≤ length given.words.now)) }
     requires output { length outputs.old ≡ row.output }
-    ensures { Makes (effect (row_ask given.entry.texts.now given.entry.numbers.now given.entry.words.now row) (lent_all model.old state.old saves.old clock) outputs.old) result.numbers (lent_all model.new state.new saves.new result.clock) outputs.new }
+    ensures { Makes (effect (row_ask given.entry.texts.now given.entry.numbers.now given.entry.words.now row) (lent_whole model.old state.old saves.old clock search.old) outputs.old) result.numbers (lent_whole model.new state.new saves.new result.clock search.new) outputs.new }
 {
     let text = &given.texts[row.text..][..row.size];
     let waiting = &given.numbers[row.from..][..row.count];
     let words = &given.words[row.start..][..row.words];
     match kind {
-        Kind::Open => Reply::from(engine::open(text, model, state, saves, clock)),
-        Kind::Steady => Reply::from(engine::open_steady(text, model, state, saves, clock)),
+        Kind::Open => Reply::from(engine::open(text, model, state, saves, search, clock)),
+        Kind::Steady => Reply::from(engine::open_steady(text, model, state, saves, search, clock)),
         Kind::List => Reply::plain(engine::list(model, state, outputs), clock),
         Kind::Report => Reply::plain(engine::report(model, state, outputs), clock),
         Kind::Step => Reply::plain(engine::step(model, state, outputs, row.number), clock),
@@ -287,21 +314,23 @@ fn make(
         Kind::Save => Reply::plain(engine::save(model, state, saves, text, clock), clock),
         Kind::Return => Reply::from(engine::return_to(model, state, saves, text, clock)),
         Kind::Forget => Reply::plain(engine::forget(model, state, saves, text), clock),
-        Kind::Search => {
-            found_reply(
-                engine::searches::search(model, state, text, row.number),
-                clock,
-            )
-        }
+        Kind::Search => { found_reply(searches::search(model, state, text, row.number), clock) }
         Kind::Run => {
             Reply::from(engine::run(model, state, words, waiting, outputs, row.number, clock))
+        }
+        Kind::Begin => {
+            let answer = searches::begin(model, state, search, text, row.number);
+            Reply::plain(answer, clock)
+        }
+        Kind::Carry => {
+            progress_reply(searches::carry_on(model, state, search, row.number), clock)
         }
     }
 }
 
 impl Lent<'_> {
     // Whether a row of one of the kinds is a call on what is given and this, with its output from a place on.
-    #[tactic(auto, unfolding(crate::specs::Rows::fits, crate::specs::Rows::is_kind, crate::specs::Rows::row_lengths, crate::specs::Run::room_of, crate::specs::Run::lent_four, machine::specs::Machine::all_parts))]
+    #[tactic(auto, unfolding(crate::specs::Rows::fits, crate::specs::Rows::is_kind, crate::specs::Rows::row_lengths, crate::specs::Run::room_of, crate::specs::Run::lent_five, machine::specs::Machine::all_parts))]
     fn fits(&self, row: Row, given: Given, output: usize) -> bool
         requires kind { is_kind row.kind ≡ true }
         requires output { output ≤ length self.now.outputs.now }
@@ -314,6 +343,7 @@ impl Lent<'_> {
             && row.state <= self.state.len()
             && row.saves <= self.saves.len()
             && Row::CLOCK <= self.clock.len()
+            && row.search <= self.search.len()
             && row.output <= self.outputs.len() - output
             && row.output <= Row::OUTPUT
     }
@@ -322,7 +352,7 @@ impl Lent<'_> {
     fn make_row(&mut self, kind: Kind, row: Row, given: Given, output: usize, answer: usize)
         requires kind { kind_number kind ≡ row.kind }
         requires named { (row.text + row.size ≤ length given.texts.now) × ((row.from + row.count ≤ length given.numbers.now) × (row.start + row.words ≤ length given.words.now)) }
-        requires lent { (row.model ≤ length self.old.model.now) × ((row.state ≤ length self.old.state.now) × ((row.saves ≤ length self.old.saves.now) × ((output + row.output ≤ length self.old.outputs.now) × (2 ≤ length self.old.clock.now)))) }
+        requires lent { (row.model ≤ length self.old.model.now) × ((row.state ≤ length self.old.state.now) × ((row.saves ≤ length self.old.saves.now) × ((row.search ≤ length self.old.search.now) × ((output + row.output ≤ length self.old.outputs.now) × (2 ≤ length self.old.clock.now))))) }
         requires answer { answer + answer_width ≤ length self.old.answers.now }
         ensures kept { Kept self.old self.new }
         ensures made { held self.new ≡ put_at output answer (held self.old) (call_left (row_call given.entry.texts.now given.entry.numbers.now given.entry.words.now row) (lent_at output answer (held self.old))) }
@@ -334,8 +364,9 @@ impl Lent<'_> {
         let model = &mut self.model[..row.model];
         let state = &mut self.state[..row.state];
         let saves = &mut self.saves[..row.saves];
+        let search = &mut self.search[..row.search];
         let outputs = &mut self.outputs[output..output + row.output];
-        let reply = make(kind, row, given, model, state, saves, outputs, now);
+        let reply = make(kind, row, given, model, state, saves, search, outputs, now);
         self.clock[..Row::CLOCK].copy_from_slice(&[reply.clock.ticks, reply.clock.draws]);
         self.answers[answer..answer + Row::ANSWER].copy_from_slice(&reply.numbers);
     }
@@ -376,12 +407,13 @@ pub fn run(
     model: &mut [u8],
     state: &mut [i64],
     saves: &mut [i64],
+    search: &mut [i64],
     clock: &mut [u64],
     outputs: &mut [u64],
     answers: &mut [u64],
 ) -> usize
-    ensures ran { Ran script.now texts.now numbers.now words.now (lent_of (lent_four model.old state.old saves.old clock.old) outputs.old answers.old) result (lent_of (lent_four model.new state.new saves.new clock.new) outputs.new answers.new) }
-    ensures refines { Refines script.now texts.now numbers.now words.now (lent_of (lent_four model.old state.old saves.old clock.old) outputs.old answers.old) (lent_of (lent_four model.new state.new saves.new clock.new) outputs.new answers.new) }
+    ensures ran { Ran script.now texts.now numbers.now words.now (lent_of (lent_five model.old state.old saves.old clock.old search.old) outputs.old answers.old) result (lent_of (lent_five model.new state.new saves.new clock.new search.new) outputs.new answers.new) }
+    ensures refines { Refines script.now texts.now numbers.now words.now (lent_of (lent_five model.old state.old saves.old clock.old search.old) outputs.old answers.old) (lent_of (lent_five model.new state.new saves.new clock.new search.new) outputs.new answers.new) }
 {
     let given = Given {
         texts,
@@ -392,6 +424,7 @@ pub fn run(
         model,
         state,
         saves,
+        search,
         clock,
         outputs,
         answers,

@@ -48,7 +48,7 @@ impl Found {
 
 // Question 26.
 #[tactic(auto, unfolding(machine::specs::Machine::is_depth))]
-fn is_depth(depth: u64) -> bool
+pub fn is_depth(depth: u64) -> bool
     ensures { result ≡ is_depth depth }
 {
     (1..=Level::DEPTH as u64).contains(&depth)
@@ -72,7 +72,7 @@ fn run_found(run: &[u16; Level::DEPTH], n: usize) -> Found
 }
 
 // What a walk comes to.
-fn result_of(walked: Result<usize, Missed>, run: &[u16; Level::DEPTH]) -> Found
+pub fn result_of(walked: Result<usize, Missed>, run: &[u16; Level::DEPTH]) -> Found
     requires { (a : tree.Answer) × Answered a walked run.now }
     ensures { (a : tree.Answer) → Answered a walked run.now → result ≡ result_of a }
 {

@@ -14,7 +14,7 @@ use Rattle.clock.specs.Clock.{InRange, is_in_range}
 use Rattle.clock.proofs.Bringing.{both-in}
 use Rattle.model.specs.Resolved
 use Rattle.machine.specs.State.{State, state_length, state_numbers}
-use Rattle.machine.specs.Machine.{model_length, event_width, no, Run, runs_with, ran_as, runs_over, held, moved_in, Machine, closed, holding, on_clock, Request, run', acts, Part, model, state, saves, clock, two_parts, timed_parts, uses, on', is_lent, all_parts, has_lengths, on_machine}
+use Rattle.machine.specs.Machine.{model_length, event_width, no, Run, runs_with, ran_as, runs_over, held, moved_in, Machine, closed, holding, on_clock, Request, run', acts, Part, model, state, saves, clock, search, two_parts, timed_parts, uses, on', is_lent, all_parts, has_lengths, on_machine}
 use Rattle.machine.proofs.Lent.{both_true}
 use Rattle.buffers.specs.Held.{held_in}
 use Rattle.buffers.specs.Listing.{shown}
@@ -78,6 +78,7 @@ module _ (bs : List ℕ) (zs : List ℤ) (m : Resolved.Model) (c : Clock) (ws vs
     left-timed ys k e f state = e
     left-timed ys k e f saves = refl
     left-timed ys k e f clock = ap clock_numbers f
+    left-timed ys k e f search = refl
 
     pub ran-so : {given : Given} (ys : List ℤ) (es : List ℕ) (q : Progress) → Stands given l ys es q m r
         → Comes (requested R Y l (some m)) c (Ok q) (lent_timed bs ys q.clock) es

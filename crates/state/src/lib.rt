@@ -75,7 +75,7 @@ fn is_zero(z: i64) -> bool
 }
 
 // By two comparisons: `usize::try_from(z)` would make a Result to take it apart at once.
-fn is_below(z: i64, n: usize) -> bool
+pub fn is_below(z: i64, n: usize) -> bool
     ensures { result ≡ is_below n z }
 {
     0 <= z && (z as usize) < n

@@ -12,7 +12,7 @@ use Rattle.model.specs.Scope.{scope_of}
 use Rattle.model.specs.Resolved
 use Rattle.tables.specs.Represents.{Represents}
 use Rattle.machine.specs.State.{State, state_length, state_numbers, GoodState}
-use Rattle.machine.specs.Machine.{held, closed, holding, Part, model, state, saves, clock, two_parts, is_lent}
+use Rattle.machine.specs.Machine.{held, closed, holding, Part, model, state, saves, clock, search, two_parts, is_lent}
 use Rattle.machine.proofs.Branches.{map-nth, nth-get, get_nth}
 use Rattle.state.specs.Test.{is_state}
 use Rattle.state.specs.Decode.{decode}
@@ -74,3 +74,4 @@ left-two bs zs ys m s e model = refl
 left-two bs zs ys m s e state = e
 left-two bs zs ys m s e saves = refl
 left-two bs zs ys m s e clock = refl
+left-two bs zs ys m s e search = refl

@@ -31,6 +31,8 @@ impl Engine {
 
     pub const SAVES: usize = saves::Layout::SAVES;
 
+    pub const SEARCH: usize = underway::Layout::NUMBERS;
+
     // Closed, no process, no pair: an associated function, by the form that the rules name for a fresh engine.
     pub fn fresh() -> Self
         ensures { (result.text ≡ 0) × (result.processes ≡ 0) × (result.pairs ≡ 0) }

@@ -3,6 +3,7 @@ use mathlib.Core.Path.{◌≡◌, refl, sym, ap, subst, ◌∙◌}
 use mathlib.Core.Bool.{Bool, true, cond}
 use mathlib.Core.List.{List}
 use mathlib.Core.Logic.{◌↔◌}
+use mathlib.Core.Option.{Option}
 use Prim.Native.Nat.{ℕ, ◌<◌}
 use native.Mathlib.Omega.{arith}
 use lib.ListN.{length, get_or}
@@ -29,7 +30,7 @@ use Rattle.machine.specs.State.{State, state_length}
 use Rattle.machine.specs.Timed.{Timed}
 use Rattle.machine.specs.Report.{report_length}
 use Rattle.machine.specs.Saves.{Saves, Stored, saving, returning, forgetting}
-use Rattle.machine.specs.Machine.{model_length, listing_length, as_lent, no, Held, held_all, held_with, held, Machine, closed, holding, on_saves, Request, list', step', report', search', timed', run', save', return', forget', open', open_steady', on', acts, Part, model, state, saves, clock, size, two_parts, timed_parts, three_parts, four_parts, uses, lent_to, is_lent, has_lengths, call, on_machine}
+use Rattle.machine.specs.Machine.{model_length, listing_length, as_lent, no, Turn, Search, begins, carries_by, Held, held_all, held_with, held, Machine, closed, holding, on_saves, on_search, Request, list', step', report', search', timed', run', save', return', forget', begin', carry', open', open_steady', on', acts, Part, model, state, saves, clock, search, size, two_parts, timed_parts, search_parts, three_parts, four_parts, uses, lent_to, is_lent, has_lengths, call, on_machine}
 use Rattle.machine.proofs.Lent.{lent-so}
 use Rattle.machine.proofs.Listing.{accepted}
 use Rattle.buffers.specs.Listing.{shown}
@@ -39,13 +40,16 @@ use Rattle.buffers.proofs.Machines.{InTwo, both, in_two, eleven-exactly, text-ma
 use Rattle.buffers.proofs.Machines as machines
 use Rattle.buffers.proofs.Clocks as clocks
 use Rattle.buffers.proofs.Clocks.{InTimed, in-timed, held_at, times-as, runs_as_lem}
+use Rattle.buffers.proofs.Pieces.{Walked, begins-walked, carries-walked}
+use Rattle.buffers.proofs.Under as unders
+use Rattle.buffers.proofs.Under.{InUnder, in-under, held_under}
 use Rattle.buffers.proofs.Four as fours
 use Rattle.buffers.proofs.Four.{InFour, in_four, keeps}
 use Rattle.buffers.proofs.Three as threes
 use Rattle.buffers.proofs.Three.{InThree, all, in_three, stores}
 use Rattle.buffers.proofs.Answers.{lists-as, steps-as, reports-as, searches-as}
 use Rattle.buffers.proofs.Every.{every-list}
-use Rattle.terms.specs.One.{Lengths, Hold, Opens, no1, no10, yes10, OpensSteady, no29, yes29, Asks, HoldSaves, Waits, Runs, Keeps, Stores, TermOne}
+use Rattle.terms.specs.One.{Lengths, Hold, Opens, no1, no10, yes10, OpensSteady, no29, yes29, Asks, HoldSaves, Waits, Runs, Searching, Keeps, Stores, TermOne}
 use Rattle.terms.specs.One as one
 use Rattle.terms.specs.Two.{Reading, Passes, TermTwo}
 use Rattle.terms.specs.Three.{TermThree}
@@ -235,6 +239,43 @@ module _ (x : Engine) (l : List ℕ) (byte : get_or (x model) 0 0 < 256) (ws vs 
       by (holds h) e = run-held h e
       by (fails h) e = subst (Runs ws vs n x l) (sym e) (one.Runs.no1 h)
 
+-- ---- a search that is begun or carried on
+
+module _ (x : Engine) (l : List ℕ) (byte : get_or (x model) 0 0 < 256) (r : Request) (f : Resolved.Model → State → Option Search → Turn (Option Search)) (q : (h : Held) → acts r h ≡ on_search f h)
+    (t : (m : Resolved.Model) (s : State) (o : Option Search) → Walked o (f m s o)) (three : uses r ≡ search_parts)
+    (asked : effect (on' r) x l ≡ cond (has_lengths (on' r) (λ (p : Part). length (x p)) (length l)) (leaves search_parts x l (on_machine r (machine_in search_parts x))) (untouched x l)) where
+  search-held : Lengths (on' r) x l → effect (on' r) x l ≡ leaves search_parts x l (on_machine r (machine_in search_parts x)) → Searching r f x l (effect (on' r) x l)
+  unfolding is_lent
+  search-held h w = by (in-under x) refl
+    where
+      long : (p : Part) → is_lent p search_parts ≡ true → length (x p) ≡ size p
+      long p k = h.parts p (rw three k)
+
+      none-held : machine_in search_parts x ≡ closed → (m : Resolved.Model) (s : State) (o : Option Search) → Hold x m s → one.HoldSearch x m o → ⊥
+      none-held e m s o k z =
+          let g : machine_in search_parts x ≡ holding (held_under m s o) = (unders.eleven-under x m s o (long model refl) byte (long state refl) (long search refl)).1 ((k.text, k.bytes, k.holds, k.over, k.numbers), z.good, z.numbers) in
+          let y : ◌≡◌ {A = ℕ} 0 1 = cc (e, g) in
+          omega arith
+
+      shut : machine_in search_parts x ≡ closed → leaves search_parts x l (on_machine r (machine_in search_parts x)) ≡ one.left (no 11 0 0 as_lent) x l
+      shut e = unfold leaves on_machine left_in shown no in ap (λ (y : Machine). leaves search_parts x l (on_machine r y)) e
+
+      by : {y : Machine} → InUnder y → machine_in search_parts x ≡ y → Searching r f x l (effect (on' r) x l)
+      by unders.nothing e = subst (Searching r f x l) (sym (w ∙ shut e)) (one.Searching.no11 h (none-held e))
+      by (unders.all m s o) e =
+          let k = (unders.eleven-under x m s o (long model refl) byte (long state refl) (long search refl)).0 e in
+          let u = unders.of-under x m s o (long state refl) (long search refl) e in
+          subst (Searching r f x l) (sym (w ∙ unders.walks r f q t three x l m s o (long state refl) e u.two))
+          (one.Searching.yes11 h (record { text = k.0.0; bytes = k.0.1; holds = k.0.2; over = k.0.3; numbers = k.0.4 }) (record { good = k.1; numbers = k.2 }))
+
+  asks-search : Searching r f x l (effect (on' r) x l)
+  unfolding untouched
+  asks-search = by (lent-so (call (on' r) (λ (p : Part). length (x p)) (length l))) asked
+    where
+      by : {b : Bool} → Decides (Lengths (on' r) x l) b → effect (on' r) x l ≡ cond b (leaves search_parts x l (on_machine r (machine_in search_parts x))) (untouched x l) → Searching r f x l (effect (on' r) x l)
+      by (holds h) e = search-held h e
+      by (fails h) e = subst (Searching r f x l) (sym e) (one.Searching.no1 h)
+
 -- ---- a save and a return
 
 module _ (x : Engine) (l : List ℕ) (byte : get_or (x model) 0 0 < 256) (r : Request) (f : Timed → Saves → Stored) (q : (h : Held) → acts r h ≡ on_saves f h) (four : uses r ≡ four_parts)
@@ -284,6 +325,8 @@ term-one = record {
   runs = λ x l ws vs n byte. asks-run x l byte ws vs n refl;
   saves = λ x l n byte. asks-kept x l byte (save' n) (saving n) (λ h. refl) refl refl;
   returns = λ x l n byte. asks-kept x l byte (return' n) (returning n) (λ h. refl) refl refl;
+  begins = λ x l n d byte. asks-search x l byte (begin' n d) (begins n d) (λ h. refl) (λ m s o. begins-walked n d m s o) refl refl;
+  carries = λ x l n byte. asks-search x l byte (carry' n) (λ m s. carries_by n m) (λ h. refl) (λ m s o. carries-walked n m o) refl refl;
   forgets = λ x l n byte. asks-saves x l byte (forget' n) (forgetting n) (λ h. refl) refl refl;
 }
 

@@ -1,7 +1,7 @@
 -- Term 1: every text, state and draw, however damaged, is read and carried through exactly as 01 says, or refused under the first of its questions that has the answer no, with the
 -- buffers as 01 gives for that number. Definitions only.
 use Rattle.std.specs.Prelude.{◌≡◌, List, ℕ, ◌/◌, ◌<◌, length, get_or}
-use Rattle.std.proofs.Math.Option.{some}
+use Rattle.std.proofs.Math.Option.{Option, some}
 use Rattle.model.specs.Resolved
 use Rattle.model.specs.Held.{held}
 use Rattle.model.specs.Opening.{refused, opened}
@@ -13,13 +13,14 @@ use Rattle.machine.specs.State.{State, state_numbers, GoodState}
 use Rattle.machine.specs.Timed.{Timed, timed}
 use Rattle.machine.specs.Saves.{Saves, GoodSaves, Stored, saving, returning, forgetting}
 use Rattle.machine.specs.Machine as machine
-use Rattle.machine.specs.Machine.{event_width, as_lent, Answer, no, runs_with, Request, list', step', report', search', timed', run', save', return', forget', Ask, open', open_steady', on', Part, model, state, saves, clock, call, opened_state}
+use Rattle.machine.specs.Machine.{event_width, as_lent, Answer, no, Turn, Search, GoodSearching, begins, carries_by, runs_with, Request, list', step', report', search', timed', run', save', return', forget', begin', carry', Ask, open', open_steady', on', Part, model, state, saves, clock, call, opened_state}
 use Rattle.machine.specs.Results.{Lent}
 use Rattle.saves.specs.Places.{saves_numbers}
+use Rattle.underway.specs.Buffer.{search_numbers}
 use Rattle.buffers.specs.Held.{model_bytes}
 use Rattle.buffers.specs.Parts.{Engine, clock_numbers, fresh, numbers_of}
 use Rattle.buffers.specs.Effect.{Effect, effect}
-use Rattle.buffers.specs.Answers.{ListsAs, StepsAs, ReportsAs, SearchesAs, TimesAs, stores_as, keeps_as, runs_as}
+use Rattle.buffers.specs.Answers.{ListsAs, StepsAs, ReportsAs, SearchesAs, TimesAs, stores_as, keeps_as, runs_as, walks_as}
 
 -- 1: what a call is lent has its length: its buffers of the engine x, and its output l
 abbrev pub Lengths : Ask → Engine → List ℕ → Type 0
@@ -80,6 +81,17 @@ pub data Runs (ws vs : List ℕ) (n : ℕ) (x : Engine) (l : List ℕ) : Effect 
   yes11 : {m : Resolved.Model} {s : State} {c : Clock} → Lengths (on' (run' ws vs n (length l))) x l → Hold x m s → HoldClock x c
       → Runs ws vs n x l (runs_as x l (runs_with n (length l / event_width) ws vs m s c))
 
+-- 02, note 10: a search over the model, or none, and the buffer has its numbers
+pub record HoldSearch (x : Engine) (m : Resolved.Model) (o : Option Search) : Type 0 where
+  pub good : GoodSearching m o
+  pub numbers : x machine.search ≡ search_numbers o
+
+-- 02, note 10: 1, then 11, which change nothing, then 26, 28 or what the turn f of the search that is held says
+pub data Searching (r : Request) (f : Resolved.Model → State → Option Search → Turn (Option Search)) (x : Engine) (l : List ℕ) : Effect → Type 0 where
+  no1 : (Lengths (on' r) x l → ⊥) → Searching r f x l (left (no 1 0 0 as_lent) x l)
+  no11 : Lengths (on' r) x l → ((m : Resolved.Model) (s : State) (o : Option Search) → Hold x m s → HoldSearch x m o → ⊥) → Searching r f x l (left (no 11 0 0 as_lent) x l)
+  yes11 : {m : Resolved.Model} {s : State} {o : Option Search} → Lengths (on' r) x l → Hold x m s → HoldSearch x m o → Searching r f x l (walks_as x l (f m s o))
+
 -- 02, notes 2 and 4: 1, then 11, which change nothing, then 20 to 22 or acceptance as the turn f of the state, the clock and the saves that are held says
 pub data Keeps (r : Request) (f : Timed → Saves → Stored) (x : Engine) (l : List ℕ) : Effect → Type 0 where
   no1 : (Lengths (on' r) x l → ⊥) → Keeps r f x l (left (no 1 0 0 as_lent) x l)
@@ -104,4 +116,6 @@ pub record TermOne : Type 0 where
   pub runs : (x : Engine) (l ws vs : List ℕ) (n : ℕ) → get_or (x model) 0 0 < 256 → Runs ws vs n x l (effect (on' (run' ws vs n (length l))) x l)
   pub saves : (x : Engine) (l n : List ℕ) → get_or (x model) 0 0 < 256 → Keeps (save' n) (saving n) x l (effect (on' (save' n)) x l)
   pub returns : (x : Engine) (l n : List ℕ) → get_or (x model) 0 0 < 256 → Keeps (return' n) (returning n) x l (effect (on' (return' n)) x l)
+  pub begins : (x : Engine) (l n : List ℕ) (d : ℕ) → get_or (x model) 0 0 < 256 → Searching (begin' n d) (begins n d) x l (effect (on' (begin' n d)) x l)
+  pub carries : (x : Engine) (l : List ℕ) (n : ℕ) → get_or (x model) 0 0 < 256 → Searching (carry' n) (λ m s. carries_by n m) x l (effect (on' (carry' n)) x l)
   pub forgets : (x : Engine) (l n : List ℕ) → get_or (x model) 0 0 < 256 → Stores (forget' n) (forgetting n) x l (effect (on' (forget' n)) x l)

@@ -45,7 +45,7 @@ impl Level {
     pub const LISTING: usize = machine::Limits::LISTING;
 
     // The longest run, which has as many listings and one state more.
-    pub const DEPTH: usize = 8;
+    pub const DEPTH: usize = machine::Limits::DEPTH;
 
     pub const STATES: usize = Level::DEPTH + 1;
 
@@ -88,7 +88,7 @@ fn is_sought(search: Search, state: &[i64], entry: Entry) -> bool
 // ---- one entry
 
 // Takes entry e of the first state: the second becomes the one after it. None if it has weight zero, else whether it is the wait.
-fn take_at(
+pub fn take_at(
     search: Search,
     states: &mut [[i64; Level::STATE]],
     listing: &[u64; Level::LISTING],

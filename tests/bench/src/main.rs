@@ -7,7 +7,7 @@
 //! same calls, so each call counts with its least time over all rounds: other work on the machine
 //! only adds. What is printed is the mean of these over the run. Buffers are lent as the call
 //! before left them; none is cleared in between. Then each searches for a wait that there is not, in at
-//! most three rounds: the states that it walks in a second. And each runs the models in one call, and by
+//! most three rounds: the states that it walks in a second, in one call and in pieces of 1,000. And each runs the models in one call, and by
 //! listings and timed steps one by one: nanoseconds a step; at last the seconds of 500 runs to the end. Without the feature `engine` only the
 //! second engine is timed.
 
@@ -18,7 +18,7 @@ mod searches;
 use models::Model;
 use runs::Start;
 use second::generate::{Engine, Random};
-use second::{Clock, Opening, LISTING, MODEL, REPORT, SAVES, STATE};
+use second::{Clock, Opening, LISTING, MODEL, REPORT, SAVES, SEARCH, STATE};
 use std::time::{Duration, Instant};
 
 /// The draws of every run come from this seed.
@@ -82,21 +82,25 @@ fn run(rounds: usize) {
     }
 }
 
-/// Prints the states that each engine walks in a second, in the shortest of all rounds.
+/// Prints the states that each engine walks in a second, in one call and in pieces, in the shortest of all rounds.
 fn search(rounds: usize) {
-    let names: Vec<String> = ENGINES.iter().map(|(name, _)| format!("{:>12}", format!("{name}/s"))).collect();
+    let names = ENGINES.iter().flat_map(|(name, _)| [format!("{name}/s"), "in pieces/s".to_string()]);
+    let names: Vec<String> = names.map(|name| format!("{name:>12}")).collect();
     println!("{:12} {:>6} {:>8} {}", "search", "depth", "states", names.join(" "));
     for search in searches::ALL {
         let buffers = ENGINES.map(|(_, engine)| search.begun(&engine, SEED));
-        let mut least = ENGINES.map(|_| f64::INFINITY);
+        let states = search.states(SEED);
+        let mut least = ENGINES.map(|_| [f64::INFINITY; 2]);
         for _ in 0..rounds {
-            for (((_, engine), buffers), least) in ENGINES.iter().zip(&buffers).zip(&mut least) {
-                *least = least.min(search.seconds(engine, buffers));
+            for (((_, engine), buffers), [whole, pieces]) in ENGINES.iter().zip(&buffers).zip(&mut least) {
+                *whole = whole.min(search.seconds(engine, buffers));
+                let (time, walked) = search.seconds_in_pieces(engine, buffers);
+                assert_eq!(walked, states as u64, "{}", search.name);
+                *pieces = pieces.min(time);
             }
         }
-        let states = search.states(SEED);
-        let rates: Vec<String> = least.iter().map(|time| format!("{:12.0}", states as f64 / time)).collect();
-        println!("{:12} {:6} {states:8} {}", search.name, search.depth, rates.join(" "));
+        let rates = least.iter().flatten().map(|time| format!("{:12.0}", states as f64 / time));
+        println!("{:12} {:6} {states:8} {}", search.name, search.depth, rates.collect::<Vec<_>>().join(" "));
     }
 }
 
@@ -183,6 +187,7 @@ struct Buffers {
     listing: Vec<u64>,
     report: Vec<u64>,
     saves: Vec<i64>,
+    search: Vec<i64>,
 }
 
 impl Times {
@@ -202,13 +207,14 @@ impl Times {
             listing: vec![0; LISTING],
             report: vec![0; REPORT],
             saves: vec![0; SAVES],
+            search: vec![0; SEARCH],
         };
         let begun = Instant::now();
         while begun.elapsed() < REPEATING {
-            let Buffers { model: held, state, saves, .. } = &mut buffers;
-            let mut clock = Clock::default();
+            let Buffers { model: held, state, saves, search, .. } = &mut buffers;
+            let clock = &mut Clock::default();
             let start = Instant::now();
-            let opened = (engine.open)(&model.text, Opening { model: held, state, saves, clock: &mut clock });
+            let opened = (engine.open)(&model.text, Opening { model: held, state, saves, search, clock });
             self.note(OPEN, 0, start);
             assert_eq!(opened.number, 0, "{}", model.name);
         }

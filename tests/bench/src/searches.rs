@@ -1,11 +1,14 @@
-//! Searches that walk some ten thousands of states: a wait that no model has, so that every run is walked.
+//! Searches that walk some ten thousands of states: a wait that no model has, so that every run is walked, in one call or
+//! in pieces.
 
 use second::generate::{Buffers, Call, Draw, Engine, Random, RIGHT, SECOND};
 use second::runs::Runs;
-use second::{engine, Found, MODEL, STATE};
+use second::{engine, Found, Progress, MODEL, SEARCH, STATE};
 use std::time::Instant;
 
 const NAME: &[u8] = b"never";
+/// A piece walks so many states.
+pub const PIECE: u64 = 1_000;
 
 pub struct Search {
     pub name: &'static str,
@@ -49,6 +52,25 @@ impl Search {
         assert_eq!(found, Found::default(), "{}", self.name);
         time
     }
+
+    /// The seconds that the same search takes in pieces, and the states that it says it walked.
+    pub fn seconds_in_pieces(&self, engine: &Engine, buffers: &Buffers) -> (f64, u64) {
+        let (model, state, mut search) = (&buffers.model[..MODEL], &buffers.state[..STATE], vec![0; SEARCH]);
+        let start = Instant::now();
+        let begun = (engine.begin)(model, state, &mut search, NAME, self.depth);
+        assert_eq!(begun.number, 0, "{}", self.name);
+        let mut count = 0;
+        loop {
+            let progress = (engine.carry_on)(model, state, &mut search, PIECE);
+            if progress.ended == 1 {
+                let time = start.elapsed().as_secs_f64();
+                assert_eq!(progress, Progress::ended(progress.count, Found::default()), "{}", self.name);
+                return (time, progress.count);
+            }
+            count += PIECE;
+            assert_eq!(progress, Progress::going(count), "{}", self.name);
+        }
+    }
 }
 
 #[cfg(test)]
@@ -61,6 +83,15 @@ mod tests {
             let states = search.states(crate::SEED);
             assert!((10_000..100_000).contains(&states), "{}: {states}", search.name);
             search.seconds(&SECOND, &search.begun(&SECOND, crate::SEED));
+        }
+    }
+
+    #[test]
+    fn pieces_walk_as_many_states() {
+        for search in ALL {
+            let search = Search { depth: search.depth - 1, ..search };
+            let (_, walked) = search.seconds_in_pieces(&SECOND, &search.begun(&SECOND, crate::SEED));
+            assert_eq!(walked, search.states(crate::SEED) as u64, "{}", search.name);
         }
     }
 }

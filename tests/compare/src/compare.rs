@@ -2,9 +2,9 @@
 
 use crate::met::Met;
 use crate::ran;
-use second::generate::{Buffer, Buffers, Call, Engine, Given};
+use second::generate::{Buffer, Buffers, Call, Depth, Engine, Given};
 use second::ran::EVENT;
-use second::{Clock, LISTING, MODEL, REPORT, SAVES, STATE};
+use second::{Clock, Found, LISTING, MODEL, REPORT, SAVES, SEARCH, STATE};
 use std::collections::BTreeMap;
 use std::fmt;
 
@@ -19,6 +19,7 @@ pub enum Place {
     Saves,
     Events,
     Clock,
+    Search,
 }
 
 /// The first difference between two engines on a list of calls.
@@ -46,6 +47,7 @@ pub fn run(tried: &Engine, oracle: &Engine, calls: &[Call], met: &mut Met) -> Re
     let (mut left, mut right) = (Buffers::default(), Buffers::default());
     let mut made = Vec::new();
     let mut saved = Saved::default();
+    let mut begun = Begun::default();
     let mut profile = Profile::default();
     for (number, call) in calls.iter().enumerate() {
         if right.walks_many(call) {
@@ -57,6 +59,7 @@ pub fn run(tried: &Engine, oracle: &Engine, calls: &[Call], met: &mut Met) -> Re
             left.make(tried, &call);
             right.make(oracle, &call);
             saved.note_change(&call);
+            begun.note_change(&call);
             profile.steady = false;
             continue;
         }
@@ -68,6 +71,7 @@ pub fn run(tried: &Engine, oracle: &Engine, calls: &[Call], met: &mut Met) -> Re
             .or_else(|| saved.note(&call, &first, &left))
             .or_else(|| untimed(oracle, &call, &lent, &first, &left))
             .or_else(|| unlike_steps(tried, &call, &lent, &first, &left))
+            .or_else(|| begun.note(oracle, &call, &first, &left))
             .or_else(|| profile.note(&call, &first, &lent, &left));
         if let Some((place, what)) = fault {
             return Err(Difference { call: number, place, what, made });
@@ -81,9 +85,9 @@ pub fn run(tried: &Engine, oracle: &Engine, calls: &[Call], met: &mut Met) -> Re
 fn as_lent(buffers: &Buffers, call: &Call) -> Buffers {
     let saves = if call.lends(Buffer::Saves) { buffers.saves.clone() } else { Vec::new() };
     let events = if call.lends(Buffer::Events) { buffers.events.clone() } else { Vec::new() };
-    let Buffers { model, state, listing, report, clock, .. } = buffers;
+    let Buffers { model, state, listing, report, search, clock, .. } = buffers;
     let (model, state, listing, report) = (model.clone(), state.clone(), listing.clone(), report.clone());
-    Buffers { model, state, listing, report, saves, events, clock: *clock }
+    Buffers { model, state, listing, report, saves, events, search: search.clone(), clock: *clock }
 }
 
 /// An accepted timed step alters state and listing as a step with its choosing draw does (02, note 4).
@@ -158,6 +162,61 @@ impl Saved {
     }
 }
 
+/// The search that the list of calls alone has begun: what it was asked, and how many runs it walked.
+#[derive(Default)]
+struct Begun {
+    /// `None` once it was changed by hand, too.
+    asked: Option<Asked>,
+}
+
+struct Asked {
+    model: Vec<u8>,
+    state: Vec<i64>,
+    name: Vec<u8>,
+    depth: u64,
+    walked: u64,
+}
+
+impl Begun {
+    /// What another model, or another number, makes of it is asked of the two engines alone.
+    fn note_change(&mut self, change: &Call) {
+        if let Call::SetSearch { .. } | Call::EndSearch | Call::SetModel { .. } = change {
+            self.asked = None;
+        }
+    }
+
+    /// A call walks as many runs as it is given unless the search ends in it, and then it answers as a search in one call
+    /// does at the state where it began (02, note 10).
+    fn note(&mut self, oracle: &Engine, call: &Call, given: &Given, after: &Buffers) -> Option<(Place, String)> {
+        match (call, given) {
+            _ if call.opens() && given.number() != 1 => self.asked = None,
+            (Call::Begin { name, depth: Depth::Exactly(depth), .. }, _) if given.number() == 0 => {
+                let (model, state) = (after.model[..MODEL].to_vec(), after.state[..STATE].to_vec());
+                self.asked = Some(Asked { model, state, name: name.clone(), depth: *depth, walked: 0 });
+            }
+            (Call::Carry { number, .. }, Given::Progress(progress)) if [0, 27].contains(&progress.number) => {
+                let asked = self.asked.as_mut()?;
+                asked.walked = asked.walked.saturating_add(*number);
+                if progress.ended == 0 && progress.count != asked.walked {
+                    return Some((
+                        Place::Answer,
+                        format!("{} runs were walked and not {}", progress.count, asked.walked),
+                    ));
+                }
+                if progress.ended == 1 {
+                    let whole = (oracle.search)(&asked.model, &asked.state, &asked.name, asked.depth);
+                    let pieces = Found { number: progress.number, length: progress.length, run: progress.run };
+                    self.asked = None;
+                    return (whole != pieces)
+                        .then(|| (Place::Answer, format!("the search in one call gives {whole:?}")));
+                }
+            }
+            _ => {}
+        }
+        None
+    }
+}
+
 /// Was the text opened under the steady profile, and nothing changed by hand since?
 #[derive(Default)]
 struct Profile {
@@ -191,6 +250,7 @@ fn differs(call: &Call, first: &Given, left: &Buffers, second: &Given, right: &B
         .or_else(|| part(Place::Listing, "listing", &left.listing, &right.listing))
         .or_else(|| part(Place::Report, "report", &left.report, &right.report))
         .or_else(|| part(Place::Model, "model", &left.model, &right.model))
+        .or_else(|| part(Place::Search, "search", &left.search, &right.search))
         .or_else(|| call.lends(Buffer::Saves).then(|| part(Place::Saves, "saves", &left.saves, &right.saves))?)
         .or_else(|| call.lends(Buffer::Events).then(|| part(Place::Events, "events", &left.events, &right.events))?)
 }
@@ -216,6 +276,10 @@ fn kept(call: &Call, lent: &Buffers, given: &Given, after: &Buffers) -> Option<(
     let past = (EVENT * ran).min(after.events.len());
     let saves_as_lent = lent_saves && !saves && (!opening || number == 1);
     let forgets = opening && number != 1;
+    // Carried on by nothing, it stays as it is (decision A60).
+    let walks = matches!(call, Call::Begin { .. } | Call::Carry { number: 1.., .. });
+    let search_as_lent = !(walks && [0, 27].contains(&number)) && !forgets;
+    let ended = matches!(given, Given::Progress(progress) if progress.ended == 1);
     let closes = opening && number > 1;
     let model_as_lent = !opening || number == 1;
     let state_as_lent = !moves && (!opening || number == 1);
@@ -226,6 +290,9 @@ fn kept(call: &Call, lent: &Buffers, given: &Given, after: &Buffers) -> Option<(
         (closes && !zero(&after.state[..STATE]), Place::State, "leaves a part of the state"),
         (!timed && !forgets && after.clock != lent.clock, Place::Clock, "changes the clock"),
         (forgets && after.clock != Clock::default(), Place::Clock, "leaves a part of the clock"),
+        (search_as_lent && after.search != lent.search, Place::Search, "changes the search"),
+        ((forgets || ended) && !zero(&after.search[..SEARCH]), Place::Search, "leaves a part of the search"),
+        (after.search[SEARCH..] != lent.search[SEARCH..], Place::Search, "writes past the search"),
         (saves_as_lent && after.saves != lent.saves, Place::Saves, "changes the saves"),
         (forgets && !zero(&after.saves[..SAVES]), Place::Saves, "leaves a part of the saves"),
         (lent_saves && after.saves[SAVES..] != lent.saves[SAVES..], Place::Saves, "writes past the saves"),

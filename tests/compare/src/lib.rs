@@ -8,6 +8,7 @@ pub mod linked;
 pub mod lists;
 pub mod met;
 pub mod orders;
+pub mod pieces;
 pub mod ran;
 pub mod searched;
 pub mod shrink;

@@ -3,7 +3,7 @@
 #![allow(unsafe_code)]
 
 use second::generate::Engine;
-use second::{Answer, Clock, Found, Opening, Ran, Running};
+use second::{Answer, Clock, Found, Opening, Progress, Ran, Running};
 
 /// As `matgravel_answer` of the header.
 #[repr(C)]
@@ -33,6 +33,16 @@ struct CRan {
     waiting: u64,
     count: u64,
     total: u64,
+}
+
+/// As `matgravel_progress` of the header.
+#[repr(C)]
+struct CProgress {
+    number: u64,
+    count: u64,
+    ended: u64,
+    length: u64,
+    run: [u64; 8],
 }
 
 /// As `matgravel_clock` of the header.
@@ -66,6 +76,8 @@ extern "C" {
         state_len: usize,
         saves: *mut i64,
         saves_len: usize,
+        search: *mut i64,
+        search_len: usize,
         clock: *mut CClock,
     ) -> CAnswer;
     fn matgravel_open_steady(
@@ -77,6 +89,8 @@ extern "C" {
         state_len: usize,
         saves: *mut i64,
         saves_len: usize,
+        search: *mut i64,
+        search_len: usize,
         clock: *mut CClock,
     ) -> CAnswer;
     fn matgravel_list(
@@ -171,6 +185,26 @@ extern "C" {
         limit: u64,
         clock: *mut CClock,
     ) -> CRan;
+    fn matgravel_begin(
+        model: *const u8,
+        model_len: usize,
+        state: *const i64,
+        state_len: usize,
+        search: *mut i64,
+        search_len: usize,
+        name: *const u8,
+        name_len: usize,
+        depth: u64,
+    ) -> CAnswer;
+    fn matgravel_carry_on(
+        model: *const u8,
+        model_len: usize,
+        state: *const i64,
+        state_len: usize,
+        search: *mut i64,
+        search_len: usize,
+        number: u64,
+    ) -> CProgress;
     fn matgravel_independent(entry: *const u64, entry_len: usize, other: *const u64, other_len: usize) -> u64;
 }
 
@@ -189,7 +223,7 @@ impl From<CRan> for Ran {
 }
 
 pub fn open(text: &[u8], lent: Opening) -> Answer {
-    let Opening { model, state, saves, clock } = lent;
+    let Opening { model, state, saves, search, clock } = lent;
     // The call keeps no pointer, and reads and writes within the lengths given.
     with_clock(clock, |clock| unsafe {
         matgravel_open(
@@ -201,13 +235,15 @@ pub fn open(text: &[u8], lent: Opening) -> Answer {
             state.len(),
             saves.as_mut_ptr(),
             saves.len(),
+            search.as_mut_ptr(),
+            search.len(),
             clock,
         )
     })
 }
 
 pub fn open_steady(text: &[u8], lent: Opening) -> Answer {
-    let Opening { model, state, saves, clock } = lent;
+    let Opening { model, state, saves, search, clock } = lent;
     // As above.
     with_clock(clock, |clock| unsafe {
         matgravel_open_steady(
@@ -219,6 +255,8 @@ pub fn open_steady(text: &[u8], lent: Opening) -> Answer {
             state.len(),
             saves.as_mut_ptr(),
             saves.len(),
+            search.as_mut_ptr(),
+            search.len(),
             clock,
         )
     })
@@ -362,6 +400,40 @@ pub fn run(model: &[u8], lent: Running) -> Ran {
     })
 }
 
+pub fn begin(model: &[u8], state: &[i64], search: &mut [i64], name: &[u8], depth: u64) -> Answer {
+    // As above; model, state and name are read only.
+    let answer = unsafe {
+        matgravel_begin(
+            model.as_ptr(),
+            model.len(),
+            state.as_ptr(),
+            state.len(),
+            search.as_mut_ptr(),
+            search.len(),
+            name.as_ptr(),
+            name.len(),
+            depth,
+        )
+    };
+    answer.into()
+}
+
+pub fn carry_on(model: &[u8], state: &[i64], search: &mut [i64], number: u64) -> Progress {
+    // As above; model and state are read only.
+    let CProgress { number, count, ended, length, run } = unsafe {
+        matgravel_carry_on(
+            model.as_ptr(),
+            model.len(),
+            state.as_ptr(),
+            state.len(),
+            search.as_mut_ptr(),
+            search.len(),
+            number,
+        )
+    };
+    Progress { number, count, ended, length, run }
+}
+
 pub fn independent(entry: &[u64], other: &[u64]) -> bool {
     // As above; both are read only.
     let is = unsafe { matgravel_independent(entry.as_ptr(), entry.len(), other.as_ptr(), other.len()) };
@@ -370,5 +442,19 @@ pub fn independent(entry: &[u64], other: &[u64]) -> bool {
 }
 
 /// The library's engine.
-pub const ENGINE: Engine =
-    Engine { open, open_steady, list, step, timed_step, report, save, return_to, forget, search, run, independent };
+pub const ENGINE: Engine = Engine {
+    open,
+    open_steady,
+    list,
+    step,
+    timed_step,
+    report,
+    save,
+    return_to,
+    forget,
+    search,
+    run,
+    begin,
+    carry_on,
+    independent,
+};

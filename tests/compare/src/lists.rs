@@ -5,11 +5,14 @@ use crate::met::Met;
 use crate::{shrink, specimens, texts};
 use second::generate::{self, Buffers, Call, Draw, Engine, Random, RIGHT, SECOND};
 use second::limits::{HIGHEST, LOWEST};
+use second::model::Model;
+use second::pieces::{self, COUNTED};
+use second::search::{Walk, DEPTH};
 use second::state::{
     Channel, Item, Pair, DEFINITION, FIRST_PAIR, FIRST_PROCESS, FIRST_VALUE, PAIR, PAIRS, PROCESS, PROCESSES,
 };
 use second::syntax::ITEMS;
-use second::{mazes, model, saves, script, walks, MODEL, SAVES, STATE};
+use second::{engine, mazes, model, saves, script, walks, MODEL, SAVES, SEARCH, STATE};
 
 /// How many lists the test runs, and how many calls it makes at least.
 pub const LISTS: u64 = 1_200;
@@ -22,7 +25,8 @@ const TEXT_START: usize = 2;
 
 /// The list of a seed: mostly random calls; every tenth goes through the limits, every fifth
 /// hands in states and model buffers directly, every tenth has long lists or many names, every
-/// tenth is of saves, one in twenty of a steady model, one of searches and one of runs.
+/// tenth is of saves, one in twenty of a steady model, one of searches, one of searches in pieces, one of searches handed
+/// in directly and one of runs.
 pub fn of_seed(seed: u64) -> Vec<Call> {
     let mut random = Random::new(seed);
     match seed % 20 {
@@ -32,6 +36,9 @@ pub fn of_seed(seed: u64) -> Vec<Call> {
         2 => handed_saves(&mut random),
         12 => generate::stored_calls(&mut random, 2 * STEPS),
         13 => mazes::searches(&mut random),
+        3 if seed % 40 == 3 => generate::searched_calls(&mut random, 2 * STEPS),
+        3 => mazes::in_pieces(&mut random),
+        11 => handed_searches(&mut random),
         7 => walks::walks(&mut random, (seed / 20) as usize),
         6 => {
             let which = (seed / 20) as usize % texts::LONG;
@@ -388,6 +395,77 @@ fn hand_in_saves(calls: &mut Vec<Call>, buffers: &mut Buffers, held: &[i64]) {
             buffers.saves[place] = number;
             calls.push(Call::SetSaves { place, number });
         }
+    }
+}
+
+// Searches handed in directly.
+
+/// Searches that no call left: of another run, from another state, with other numbers, and spoilt ones.
+fn handed_searches(random: &mut Random) -> Vec<Call> {
+    let text = mazes::maze(random);
+    let read = model::read(&text).expect("a maze is legal");
+    let mut calls = vec![Call::Open { text, lengths: RIGHT }];
+    let mut buffers = Buffers::default();
+    buffers.make(&SECOND, &calls[0]);
+    for _ in 0..6 {
+        for call in mazes::begun(random) {
+            make(&mut calls, &mut buffers, call);
+        }
+        let mut held = buffers.search[..SEARCH].to_vec();
+        for _ in 0..*random.pick(&[1, 1, 2, 3]) {
+            spoil_search(random, &mut held, &read, &buffers);
+        }
+        for (place, &number) in held.iter().enumerate() {
+            if buffers.search[place] != number {
+                make(&mut calls, &mut buffers, Call::SetSearch { place, number });
+            }
+        }
+        let left = COUNTED.saturating_sub(held[pieces::COUNT] as u64);
+        for _ in 0..4 {
+            let number = *random.pick(&[0, 1, 1, 2, 5, left, left.saturating_add(1)]);
+            make(&mut calls, &mut buffers, Call::Carry { lengths: RIGHT, number });
+        }
+        make(&mut calls, &mut buffers, mazes::begun(random)[0].clone());
+        make(&mut calls, &mut buffers, Call::EndSearch);
+        make(&mut calls, &mut buffers, generate::some_step(random));
+    }
+    calls
+}
+
+/// Adds a call, made on these buffers, if it doesn't walk too far.
+fn make(calls: &mut Vec<Call>, buffers: &mut Buffers, call: Call) {
+    let exact = buffers.exact(&call);
+    if !buffers.walks_many(&exact) {
+        buffers.make(&SECOND, &exact);
+        calls.push(exact);
+    }
+}
+
+/// Does one thing to a search that often leaves one.
+fn spoil_search(random: &mut Random, search: &mut [i64], model: &Model, buffers: &Buffers) {
+    match random.below(9) {
+        0 => search[pieces::DEPTH_PLACE] = random.between(0, 9),
+        1 => search[pieces::WAIT] = random.between(0, 9),
+        2 => search[pieces::COUNT] = *random.pick(&[0, 1, COUNTED as i64 - 5, COUNTED as i64, COUNTED as i64 + 1, -1]),
+        3 => search[pieces::MET] = *random.pick(&[0, 0, 1, 1, 2, -1]),
+        4 | 5 => another_run(random, search, buffers),
+        6 => search[pieces::START..].copy_from_slice(&small_state(random, model)),
+        7 => spoil(random, &mut search[pieces::START..]),
+        _ => search[pieces::LENGTH + random.below(1 + DEPTH)] = *random.pick(&[0, 1, 2, 3, 9, 1_024, -1, i64::MAX]),
+    }
+}
+
+/// Any run from the present state, at which a search to the greatest depth began, in the place of the one walked last.
+fn another_run(random: &mut Random, search: &mut [i64], buffers: &Buffers) {
+    let held = engine::held(&buffers.model[..MODEL], &buffers.state[..STATE]);
+    let Some(run) = held.and_then(|(model, state)| Walk::new(model, state, DEPTH).take(1 + random.below(60)).last())
+    else {
+        return;
+    };
+    search[pieces::LENGTH..pieces::START].fill(0);
+    search[pieces::LENGTH] = run.entries.len() as i64;
+    for (place, entry) in search[pieces::RUN..].iter_mut().zip(run.entries) {
+        *place = entry as i64;
     }
 }
 

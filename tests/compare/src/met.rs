@@ -1,6 +1,6 @@
 //! What the calls of a comparison have met: answers, kinds of steps, specimens.
 
-use crate::{ran, searched};
+use crate::{pieces, ran, searched};
 use second::generate::{Buffers, Call, Draw, Given};
 use second::limits::{HIGHEST, LOWEST};
 use second::state::{FIRST_PAIR, FIRST_PROCESS, FIRST_VALUE, LOCALS, PAIR, PROCESS, VALUE_COUNT};
@@ -15,7 +15,7 @@ const CHANNEL_KINDS: std::ops::RangeInclusive<u64> = 2..=7;
 /// Numbers of a listing entry.
 const ENTRY: usize = 7;
 /// What each call must have answered.
-const ANSWERS: [(&str, &[u64]); 11] = [
+const ANSWERS: [(&str, &[u64]); 13] = [
     ("open", &[0, 1, 2, 3, 4, 5, 6, 7, 8, 9, 10]),
     ("steady", &[0, 1, 2, 3, 4, 5, 6, 7, 8, 9, 10, 29]),
     ("list", &[0, 1, 11, 12, 13, 14]),
@@ -27,6 +27,8 @@ const ANSWERS: [(&str, &[u64]); 11] = [
     ("forget", &[0, 1, 11, 20, 21]),
     ("search", &[0, 1, 11, 26, 27]),
     ("run", &[0, 1, 11, 12, 13, 14, 15, 17, 18, 19, 23, 24, 25]),
+    ("begin", &[0, 1, 11, 26]),
+    ("carry", &[0, 1, 11, 27, 28]),
 ];
 /// Lengths of runs that searches must have found, 0 for none.
 const LENGTHS: std::ops::RangeInclusive<u64> = 0..=8;
@@ -51,6 +53,8 @@ pub struct Met {
     /// Accepted steps by the kind of the entry taken and the items of its channel.
     kinds: BTreeMap<(u64, usize), u64>,
     draws: BTreeMap<&'static str, u64>,
+    /// What searches in pieces met.
+    pieces: BTreeMap<&'static str, u64>,
     /// Accepted searches by the length of the run found, 0 for none.
     lengths: BTreeMap<u64, u64>,
     /// What searches met besides.
@@ -80,6 +84,9 @@ impl Met {
             for what in ran::met(call, ran, lent) {
                 *self.runs.entry(what).or_default() += 1;
             }
+        }
+        for what in pieces::met(call, given, lent, after) {
+            *self.pieces.entry(what).or_default() += 1;
         }
         let Some(answer) = given.answer() else { return };
         if let (Call::Steady { text, .. }, 29) = (call, answer.number) {
@@ -136,12 +143,13 @@ impl Met {
         let searches = searched::all().into_iter().filter(|what| !self.searches.contains_key(what));
         let runs = ran::all().into_iter().filter(|what| !self.runs.contains_key(what));
         let unsteady = UNSTEADY.into_iter().filter(|what| !self.unsteady.contains_key(what));
+        let pieces = pieces::ALL.into_iter().filter(|what| !self.pieces.contains_key(what));
         let specimens = specimens.iter().filter(|name| !self.specimens.contains(**name));
         answers
             .map(|(name, number)| format!("{name} with {number}"))
             .chain(kinds.map(|(kind, items)| format!("a step of kind {kind} on {items} items")))
             .chain(lengths.map(|length| format!("a run of {length} entries found")))
-            .chain(searches.chain(runs).chain(unsteady).map(str::to_string))
+            .chain(searches.chain(pieces).chain(runs).chain(unsteady).map(str::to_string))
             .chain(draws.map(|name| format!("draw: {name}")))
             .chain(ends.map(|(what, end)| format!("{what} {end}")))
             .chain(specimens.map(|name| format!("specimen: {name}")))
@@ -190,6 +198,8 @@ impl fmt::Display for Met {
         writeln!(out, "  searches {}", searches.join(", "))?;
         let runs: Vec<String> = self.runs.iter().map(|(what, times)| format!("{what}:{times}")).collect();
         writeln!(out, "  runs {}", runs.join(", "))?;
+        let pieces: Vec<String> = self.pieces.iter().map(|(what, times)| format!("{what}:{times}")).collect();
+        writeln!(out, "  {}", pieces.join(", "))?;
         let ends: Vec<String> = self.ends.iter().map(|((what, end), times)| format!("{what} {end}:{times}")).collect();
         writeln!(out, "  values {}", ends.join(", "))?;
         write!(out, "  specimens {}", self.specimens.len())

@@ -4,7 +4,7 @@ use crate::compare::{self, Difference};
 use crate::met::Met;
 use second::generate::{Buffers, Call, Depth, Draw, Engine, Word, RIGHT};
 use second::tokens::{self, Kind};
-use second::{model, MODEL, SAVES, STATE};
+use second::{model, MODEL, SAVES, SEARCH, STATE};
 
 /// How many calls are made on shorter lists, at most, what a list costs besides its calls, and what a word of a run does.
 const WORK: usize = 1_200_000;
@@ -103,6 +103,8 @@ impl Shrinker<'_> {
         calls.extend(changed.map(|place| Call::SetState { place, number: held.state[place] }));
         let changed = (0..SAVES).filter(|&place| held.saves[place] != 0);
         calls.extend(changed.map(|place| Call::SetSaves { place, number: held.saves[place] }));
+        let changed = (0..SEARCH).filter(|&place| held.search[place] != 0);
+        calls.extend(changed.map(|place| Call::SetSearch { place, number: held.search[place] }));
         if held.clock != opened.clock {
             calls.push(Call::SetClock(held.clock));
         }
@@ -357,15 +359,16 @@ impl Shrinker<'_> {
         }
     }
 
-    /// Tries the least depths of each search.
+    /// Tries the least depths of each search, and the least numbers to carry it on by.
     fn lower_depths(&mut self) {
         for call in 0..self.best.made.len() {
             for lower in 1..=3 {
                 let mut calls = self.best.made.clone();
                 match calls.get_mut(call) {
-                    Some(Call::Search { depth, .. }) if *depth != Depth::Exactly(lower) => {
+                    Some(Call::Search { depth, .. } | Call::Begin { depth, .. }) if *depth != Depth::Exactly(lower) => {
                         *depth = Depth::Exactly(lower);
                     }
+                    Some(Call::Carry { number, .. }) if *number > lower => *number = lower,
                     _ => break,
                 }
                 if self.takes(&calls) {
@@ -406,7 +409,9 @@ fn size(calls: &[Call]) -> usize {
             let words: usize = words.iter().map(|word| 10 + digits(word)).sum();
             10 + words + 10 * waiting.len() + limit.to_string().len()
         }
-        Call::Search { name, depth: Depth::Exactly(depth), .. } => 10 + name.len() + depth.to_string().len(),
+        Call::Carry { number, .. } => 10 + number.to_string().len(),
+        Call::Search { name, depth: Depth::Exactly(depth), .. }
+        | Call::Begin { name, depth: Depth::Exactly(depth), .. } => 10 + name.len() + depth.to_string().len(),
         Call::Save { name, .. } | Call::Return { name, .. } | Call::Forget { name, .. } => 10 + name.len(),
         _ => 10,
     };

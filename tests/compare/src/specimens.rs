@@ -1,10 +1,11 @@
 //! The specimens of 01 that have no star, the bench sheet, the starred divisions and products beyond
-//! 64 bits, steady texts, searches and runs, as lists of calls whose last answer is known.
+//! 64 bits, steady texts, searches, at once and in pieces, and runs, as lists of calls whose last answer is known.
 
 use crate::compare::{self, Difference};
 use crate::met::Met;
 use second::generate::{Call, Depth, Draw, Engine, Given, Lengths, Word, RIGHT};
-use second::{Answer, Found, Ran};
+use second::pieces::COUNTED;
+use second::{Answer, Found, Progress, Ran};
 
 /// The bench sheet's model, as 01 has it.
 pub const SHEET: &str = "\
@@ -193,6 +194,93 @@ fn searches() -> Vec<Specimen> {
     ]
 }
 
+/// Two entries at each state; three at that after two a, where it can go: run 9.
+const TREE: &str = "A[n]=[n<2]->{a,1}.A[n+1]+{b,1}.A[0]+[n==2]->{go,1};A[0];";
+
+fn begin(wait: &[u8], depth: u64) -> Call {
+    Call::Begin { lengths: RIGHT, name: wait.to_vec(), depth: Depth::Exactly(depth) }
+}
+
+fn carry(number: u64) -> Call {
+    Call::Carry { lengths: RIGHT, number }
+}
+
+/// What the last of these calls answers, after an opening of a text and a search begun to a depth.
+fn piece(name: &'static str, text: &str, depth: u64, calls: &[Call], progress: Progress) -> Specimen {
+    Specimen { name, calls: [&[open(text), begin(b"go", depth)], calls].concat(), answer: Given::Progress(progress) }
+}
+
+/// Of note 10: how many runs are walked, what ends a search, what doesn't.
+fn pieces() -> Vec<Specimen> {
+    let (going, ended, none_begun) = (Progress::going, Progress::ended, Progress::refusal(28));
+    let (found, refused) = (Found::run(&[0, 0, 1]), Found::refusal(27));
+    let carried = |numbers: &[u64]| numbers.iter().map(|&number| carry(number)).collect::<Vec<_>>();
+    let piece_of = |name, depth, numbers: &[u64], progress| piece(name, TREE, depth, &carried(numbers), progress);
+    let (now, later) = ("A[]={go,1}+{b,1*(1/0)};A[];", "A[n]={a,1}.A[n-1]+{b,0*(1/n)};A[1];");
+    let set = |place, number| Call::SetSearch { place, number };
+    let most = COUNTED as i64;
+    let short = Call::Open { text: TREE.into(), lengths: Lengths { search: RIGHT.search - 1, ..RIGHT } };
+    let save = |call: fn(Lengths, Vec<u8>) -> Call| call(RIGHT, b"s".to_vec());
+    let (saved, returned) =
+        (save(|lengths, name| Call::Save { lengths, name }), save(|lengths, name| Call::Return { lengths, name }));
+    vec![
+        piece_of("a search carried on by nothing", 8, &[0], going(0)),
+        piece_of("the empty run is the first", 8, &[1], going(1)),
+        piece_of("a run before that to the wait", 8, &[8], going(8)),
+        piece_of("the run to the wait", 8, &[9], ended(9, found)),
+        piece_of("past the run to the wait", 8, &[3, 0, 100], ended(9, found)),
+        piece_of("the run to the wait by itself", 8, &[8, 1], ended(9, found)),
+        piece_of("a run before the last", 2, &[3, 3], going(6)),
+        piece_of("the last run ends it", 2, &[3, 4], ended(7, NONE)),
+        piece_of("past the last run", 2, &[3, 5], ended(7, NONE)),
+        piece_of("as many runs as there may be", 2, &[1, COUNTED - 1], ended(7, NONE)),
+        piece_of("one run more than there may be", 2, &[1, COUNTED], none_begun),
+        piece_of("at once as many runs as there may be", 2, &[COUNTED], ended(7, NONE)),
+        piece_of("at once one run more", 2, &[COUNTED + 1], none_begun),
+        piece_of("a sum of 2^64", 2, &[1, u64::MAX], none_begun),
+        piece_of("28 leaves it", 2, &[1, COUNTED, 6], ended(7, NONE)),
+        piece_of("28 once it ended", 2, &[7, 0], none_begun),
+        piece("27 with the first run", now, 8, &[carry(5)], ended(1, refused)),
+        piece("27 with the last run", later, 8, &[carry(1), carry(1)], ended(2, refused)),
+        piece("no listing at full depth in pieces", later, 1, &[carry(2)], ended(2, NONE)),
+        piece("26 leaves it", TREE, 8, &[carry(3), begin(b"a", 9), carry(6)], ended(9, found)),
+        piece("another one in its place", TREE, 8, &[carry(3), begin(b"a", 1), carry(6)], ended(2, Found::run(&[0]))),
+        piece("steps during a search", TREE, 8, &[carry(3), step(0), step(0), carry(6)], ended(9, found)),
+        piece(
+            "a search from a state left",
+            TREE,
+            8,
+            &[step(0), begin(b"go", 8), carry(9)],
+            ended(5, Found::run(&[0, 1])),
+        ),
+        piece("a return during a search", TREE, 8, &[saved, step(0), carry(3), returned, carry(6)], ended(9, found)),
+        piece("28 after an opening", TREE, 8, &[carry(3), open(TREE), carry(1)], none_begun),
+        piece("11 after a refused opening", TREE, 8, &[carry(3), open(";"), carry(1)], Progress::refusal(11)),
+        piece("1 of an opening leaves it", TREE, 8, &[carry(3), short, carry(6)], ended(9, found)),
+        piece("11 for a depth of nine", TREE, 8, &[carry(3), set(0, 9), carry(0)], Progress::refusal(11)),
+        piece("11 for a run longer than the depth", TREE, 8, &[carry(4), set(0, 1), carry(0)], Progress::refusal(11)),
+        piece("11 for a wait past the last", TREE, 8, &[set(1, 4), carry(0)], Progress::refusal(11)),
+        piece("11 for a count past the most", TREE, 8, &[carry(3), set(2, most + 1), carry(0)], Progress::refusal(11)),
+        piece("11 for a run where none was walked", TREE, 8, &[carry(3), set(2, 0), carry(0)], Progress::refusal(11)),
+        piece("11 for a flag of two", TREE, 8, &[set(3, 2), carry(0)], Progress::refusal(11)),
+        piece("11 for an entry that is none", TREE, 8, &[carry(3), set(5, 2), carry(0)], Progress::refusal(11)),
+        piece("11 for an entry past the run", TREE, 8, &[carry(3), set(6, 1), carry(0)], Progress::refusal(11)),
+        piece("11 for a state that is none", TREE, 8, &[set(13, 257), carry(0)], Progress::refusal(11)),
+        piece("another wait by hand", TREE, 8, &[carry(2), set(1, 2), carry(1)], ended(3, Found::run(&[1]))),
+        piece("a refusal noted by hand", TREE, 2, &[carry(2), set(3, 1), carry(9)], ended(7, refused)),
+        piece("another run by hand", TREE, 2, &[carry(2), set(5, 1), carry(9)], ended(6, NONE)),
+        piece("the last run by hand", TREE, 1, &[carry(2), set(5, 1), carry(1)], ended(2, NONE)),
+        piece("another state by hand", TREE, 8, &[set(16, 2), carry(9)], ended(3, Found::run(&[1]))),
+        piece("up to the most", TREE, 8, &[carry(3), set(2, most - 2), carry(2)], going(COUNTED)),
+        piece("one past the most", TREE, 8, &[carry(3), set(2, most - 2), carry(3)], none_begun),
+        Specimen {
+            name: "28 before any search",
+            calls: vec![open(TREE), carry(0)],
+            answer: Given::Progress(none_begun),
+        },
+    ]
+}
+
 /// What a run of a text with room for two events gives: number, steps, words, waiting draws, count, total.
 fn ran(name: &'static str, text: &str, words: &[u64], waiting: &[u16], limit: u64, numbers: [u64; 6]) -> Specimen {
     let words = words.iter().copied().map(Word::Exactly).collect();
@@ -239,7 +327,7 @@ fn runs() -> Vec<Specimen> {
 }
 
 pub fn all() -> Vec<Specimen> {
-    [specimens(), steady_texts(), searches(), runs()].into_iter().flatten().collect()
+    [specimens(), steady_texts(), searches(), pieces(), runs()].into_iter().flatten().collect()
 }
 
 pub fn names() -> Vec<&'static str> {

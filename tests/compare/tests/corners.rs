@@ -1,5 +1,5 @@
 //! The library at corners that no script of `calls` reaches: a clock at the ends of its range, also in a run, saves
-//! that are damaged, and saves of a wrong length.
+//! that are damaged, saves of a wrong length, and the same of searches.
 #![cfg(feature = "engine")]
 
 use compare::linked;
@@ -7,7 +7,7 @@ use compare::with_stack;
 use second::clock::Clock;
 use second::engine::Opening;
 use second::ran::EVENT;
-use second::{Running, LISTING, MODEL, SAVES, STATE};
+use second::{Answer, Progress, Running, LISTING, MODEL, SAVES, SEARCH, STATE};
 
 const MOST: u64 = (1 << 63) - 1;
 
@@ -29,7 +29,9 @@ fn opened() -> Bench {
         clock: Clock { ticks: 5, draws: 6 },
     };
     let Bench { model, state, saves, clock } = &mut bench;
-    assert_eq!(linked::open(PLAIN, Opening { model, state, saves, clock }).number, 0);
+    let search = &mut vec![7; SEARCH];
+    assert_eq!(linked::open(PLAIN, Opening { model, state, saves, search, clock }).number, 0);
+    assert!(search.iter().all(|&number| number == 0));
     assert_eq!(bench.clock, Clock { ticks: 0, draws: 0 });
     assert!(bench.saves.iter().all(|&number| number == 0));
     bench
@@ -134,5 +136,86 @@ fn saves_that_are_damaged_or_of_a_wrong_length() {
         for length in [0, SAVES - 1, SAVES + 1] {
             assert_eq!(numbers(&bench, &vec![0; length]), [1; 3]);
         }
+    });
+}
+
+/// The answers of a carrying on by this number and of a beginning to no depth over this search; none changes anything.
+fn searched(bench: &Bench, search: &[i64], number: u64) -> (Progress, u64) {
+    let mut lent = search.to_vec();
+    let begun = linked::begin(&bench.model, &bench.state, &mut lent, b"a", 0);
+    assert!(lent == search && begun == Answer::refusal(begun.number));
+    let carried = linked::carry_on(&bench.model, &bench.state, &mut lent, number);
+    assert!(lent == search);
+    (carried, begun.number)
+}
+
+#[test]
+fn searches_that_are_damaged_or_of_a_wrong_length() {
+    const COUNTED: u64 = 9_000_000_000_000_000_000;
+    with_stack(|| {
+        let bench = opened();
+        // Depth, wait, count, flag, length, eight entries, the state.
+        let mut held = vec![0; SEARCH];
+        assert_eq!(linked::begin(&bench.model, &bench.state, &mut held, b"b", 8).number, 0);
+        assert_eq!(linked::carry_on(&bench.model, &bench.state, &mut held, 3), Progress::going(3));
+        assert_eq!(held[..13], [8, 0, 3, 0, 2, 0, 0, 0, 0, 0, 0, 0, 0]);
+        assert!(held[13..] == bench.state[..]);
+        assert_eq!(searched(&bench, &held, 0), (Progress::going(3), 26));
+        let most = COUNTED as i64;
+        let passes: [(usize, i64); 7] = [(0, 2), (1, 1), (2, 1), (2, most), (3, 1), (4, 1), (4, 8)];
+        for (at, number) in passes {
+            let mut search = held.clone();
+            search[at] = number;
+            let count = if at == 2 { number as u64 } else { 3 };
+            assert_eq!(searched(&bench, &search, 0), (Progress::going(count), 26), "number {at} is {number}");
+            assert_eq!(searched(&bench, &search, COUNTED - count + 1), (Progress::refusal(28), 26));
+            assert_eq!(searched(&bench, &search, u64::MAX), (Progress::refusal(28), 26));
+        }
+        let damages: [(usize, i64); 23] = [
+            (0, 0),
+            (0, 1),
+            (0, 9),
+            (0, -1),
+            (1, 2),
+            (1, -1),
+            (2, 0),
+            (2, -1),
+            (2, most + 1),
+            (2, i64::MIN),
+            (3, 2),
+            (3, -1),
+            (4, 9),
+            (4, -1),
+            (5, 1),
+            (6, -1),
+            (7, 1),
+            (12, 1),
+            (13, 257),
+            (14, 1),
+            (15, 1),
+            (16, -5),
+            (SEARCH - 1, 1),
+        ];
+        for (at, number) in damages {
+            let mut search = held.clone();
+            search[at] = number;
+            for number in [0, 1, u64::MAX] {
+                assert_eq!(searched(&bench, &search, number), (Progress::refusal(11), 11), "number {at} is {number}");
+            }
+        }
+        assert_eq!(searched(&bench, &[0; SEARCH], 0), (Progress::refusal(28), 26));
+        for length in [0, 13, SEARCH - 1, SEARCH + 1] {
+            let mut search = held.clone();
+            search.resize(length, 0);
+            assert_eq!(searched(&bench, &search, u64::MAX), (Progress::refusal(1), 1), "{length}");
+        }
+        // One state before the limit, up to it, and one more.
+        let mut search = held.clone();
+        search[2] = most - 2;
+        assert_eq!(searched(&bench, &search, 3), (Progress::refusal(28), 26));
+        assert_eq!(linked::carry_on(&bench.model, &bench.state, &mut search, 2), Progress::going(COUNTED));
+        assert_eq!(search[..13], [8, 0, most, 0, 4, 0, 0, 0, 0, 0, 0, 0, 0]);
+        assert_eq!(searched(&bench, &search, 1), (Progress::refusal(28), 26));
+        assert_eq!(searched(&bench, &search, 0), (Progress::going(COUNTED), 26));
     });
 }

@@ -11,12 +11,14 @@ use second::runs::Runs;
 use second::script::{self, Form, Line};
 use second::state::{DEFINITION, FIRST_PAIR, FIRST_PROCESS, FIRST_VALUE, PAIR, PROCESS, VALUE_COUNT};
 use second::{
-    engine, forget, list, open, open_steady, ran, report, return_to, run, save, saves, search, step, timed_step,
-    Answer, Clock, Found, Opening, Ran, Running, LISTING, SAVES,
+    begin, carry_on, engine, forget, list, open, open_steady, pieces, ran, report, return_to, run, save, saves, search,
+    step, timed_step, Answer, Clock, Found, Opening, Progress, Ran, Running, LISTING, SAVES, SEARCH, STATE,
 };
 
 const ENTRY: usize = 7;
 
+/// A fault that shows on few lists is looked for in more than the other tests make.
+const LISTS: u64 = 3 * lists::LISTS;
 /// How many of the lists on which a fault shows are shrunk, at most, until one is short enough.
 const SHRUNK: usize = 4;
 
@@ -25,7 +27,7 @@ fn found(wrong: Engine, place: Place, calls: usize, bytes: usize) {
     with_stack(move || {
         let mut seed = 0;
         for _ in 0..SHRUNK {
-            let report = lists::run(&wrong, &SECOND, seed..lists::LISTS, &mut Met::default()).unwrap_err();
+            let Err(report) = lists::run(&wrong, &SECOND, seed..LISTS, &mut Met::default()) else { break };
             shows_it_again(&wrong, &report);
             let short = report.difference.made.len() <= calls && report.script.len() <= bytes;
             if short && report.difference.place == place {
@@ -546,6 +548,245 @@ fn a_depth_of_nine() {
         search(model, state, name, if depth == 9 { 8 } else { depth })
     }
     found(Engine { search: wrong, ..SECOND }, Place::Answer, 2, 60);
+}
+
+#[test]
+fn a_search_that_says_too_late_that_it_ended() {
+    fn wrong(model: &[u8], state: &[i64], under_way: &mut [i64], number: u64) -> Progress {
+        let before = under_way.to_vec();
+        let progress = carry_on(model, state, under_way, number);
+        let last = progress.ended == 1 && progress.length == 0 && progress.number == 0;
+        if last && progress.count == before[pieces::COUNT] as u64 + number {
+            under_way.copy_from_slice(&before);
+            return Progress { ended: 0, ..progress };
+        }
+        progress
+    }
+    found(Engine { carry_on: wrong, ..SECOND }, Place::Answer, 3, 60);
+}
+
+#[test]
+fn a_search_that_follows_the_present_state() {
+    fn wrong(model: &[u8], state: &[i64], under_way: &mut [i64], number: u64) -> Progress {
+        let begun = under_way.len() == SEARCH && under_way[pieces::DEPTH_PLACE] > 0 && under_way[pieces::COUNT] == 0;
+        if begun && state.len() == STATE {
+            under_way[pieces::START..].copy_from_slice(state);
+        }
+        carry_on(model, state, under_way, number)
+    }
+    found(Engine { carry_on: wrong, ..SECOND }, Place::Answer, 4, 90);
+    // Its answer alone.
+    fn answers(model: &[u8], state: &[i64], under_way: &mut [i64], number: u64) -> Progress {
+        let before = under_way.to_vec();
+        let progress = carry_on(model, state, under_way, number);
+        if progress.ended == 0 {
+            return progress;
+        }
+        let mut other = before;
+        other[pieces::START..].copy_from_slice(state);
+        match carry_on(model, state, &mut other, number) {
+            now if now.ended == 1 => now,
+            _ => progress,
+        }
+    }
+    found(Engine { carry_on: answers, ..SECOND }, Place::Answer, 4, 120);
+}
+
+#[test]
+fn a_search_carried_on_by_nothing_that_walks() {
+    fn wrong(model: &[u8], state: &[i64], under_way: &mut [i64], number: u64) -> Progress {
+        carry_on(model, state, under_way, number.max(1))
+    }
+    found(Engine { carry_on: wrong, ..SECOND }, Place::Answer, 3, 60);
+}
+
+#[test]
+fn a_search_that_begins_where_one_is_under_way_and_leaves_it() {
+    fn wrong(model: &[u8], state: &[i64], under_way: &mut [i64], name: &[u8], depth: u64) -> Answer {
+        let before = under_way.to_vec();
+        let answer = begin(model, state, under_way, name, depth);
+        if before.iter().any(|&number| number != 0) {
+            under_way.copy_from_slice(&before);
+        }
+        answer
+    }
+    found(Engine { begin: wrong, ..SECOND }, Place::Search, 3, 60);
+}
+
+#[test]
+fn a_search_that_is_refused_one_run_too_late() {
+    fn wrong(model: &[u8], state: &[i64], under_way: &mut [i64], number: u64) -> Progress {
+        let progress = carry_on(model, state, under_way, number);
+        if progress.number == 28 && number == pieces::COUNTED {
+            return carry_on(model, state, under_way, number - 1);
+        }
+        progress
+    }
+    found(Engine { carry_on: wrong, ..SECOND }, Place::Answer, 4, 100);
+}
+
+/// A search that is carried on as the second engine does where this stands in its buffer in the place of what is judged.
+fn carried_over(place: usize, number: i64, lent: (&[u8], &[i64], &mut [i64]), by: u64) -> Progress {
+    let (model, state, under_way) = lent;
+    let held = std::mem::replace(&mut under_way[place], number);
+    let progress = carry_on(model, state, under_way, by);
+    if progress.number != 0 || by == 0 {
+        under_way[place] = held;
+    }
+    progress
+}
+
+#[test]
+fn a_search_whose_depth_is_not_judged() {
+    fn wrong(model: &[u8], state: &[i64], under_way: &mut [i64], number: u64) -> Progress {
+        if under_way.len() == SEARCH && under_way[pieces::DEPTH_PLACE] > 8 {
+            return carried_over(pieces::DEPTH_PLACE, 8, (model, state, under_way), number);
+        }
+        carry_on(model, state, under_way, number)
+    }
+    found(Engine { carry_on: wrong, ..SECOND }, Place::Answer, 4, 120);
+}
+
+#[test]
+fn a_search_whose_wait_is_not_judged() {
+    fn wrong(model: &[u8], state: &[i64], under_way: &mut [i64], number: u64) -> Progress {
+        let mut other = under_way.to_vec();
+        if under_way.len() == SEARCH && carry_on(model, state, &mut other, number).number == 11 {
+            return carried_over(pieces::WAIT, 0, (model, state, under_way), number);
+        }
+        carry_on(model, state, under_way, number)
+    }
+    found(Engine { carry_on: wrong, ..SECOND }, Place::Answer, 4, 120);
+}
+
+#[test]
+fn a_search_whose_count_is_not_judged() {
+    fn wrong(model: &[u8], state: &[i64], under_way: &mut [i64], number: u64) -> Progress {
+        if under_way.len() == SEARCH && under_way[pieces::COUNT] > pieces::COUNTED as i64 {
+            return carried_over(pieces::COUNT, pieces::COUNTED as i64, (model, state, under_way), number);
+        }
+        carry_on(model, state, under_way, number)
+    }
+    found(Engine { carry_on: wrong, ..SECOND }, Place::Answer, 5, 120);
+}
+
+#[test]
+fn a_search_whose_run_is_not_walked_again() {
+    fn wrong(model: &[u8], state: &[i64], under_way: &mut [i64], number: u64) -> Progress {
+        let progress = carry_on(model, state, under_way, number);
+        if progress.number != 11 || number > 0 {
+            return progress;
+        }
+        let mut other = under_way.to_vec();
+        if other.len() == SEARCH {
+            other[pieces::LENGTH..pieces::START].fill(0);
+        }
+        carry_on(model, state, &mut other, number)
+    }
+    found(Engine { carry_on: wrong, ..SECOND }, Place::Answer, 6, 150);
+}
+
+#[test]
+fn a_search_with_a_run_where_nothing_was_walked() {
+    fn wrong(model: &[u8], state: &[i64], under_way: &mut [i64], number: u64) -> Progress {
+        if under_way.len() == SEARCH && under_way[pieces::COUNT] == 0 && under_way[pieces::LENGTH] > 0 {
+            return carried_over(pieces::COUNT, 1, (model, state, under_way), number);
+        }
+        carry_on(model, state, under_way, number)
+    }
+    found(Engine { carry_on: wrong, ..SECOND }, Place::Answer, 6, 150);
+}
+
+#[test]
+fn a_beginning_that_does_not_judge_the_search() {
+    fn wrong(model: &[u8], state: &[i64], under_way: &mut [i64], name: &[u8], depth: u64) -> Answer {
+        let mut other = vec![0; under_way.len()];
+        let answer = begin(model, state, &mut other, name, depth);
+        if answer.number == 0 {
+            under_way.copy_from_slice(&other);
+        }
+        answer
+    }
+    found(Engine { begin: wrong, ..SECOND }, Place::Answer, 3, 100);
+}
+
+#[test]
+fn a_beginning_that_leaves_the_run() {
+    fn wrong(model: &[u8], state: &[i64], under_way: &mut [i64], name: &[u8], depth: u64) -> Answer {
+        let before = under_way.to_vec();
+        let answer = begin(model, state, under_way, name, depth);
+        if answer.number == 0 {
+            under_way[pieces::RUN..pieces::START].copy_from_slice(&before[pieces::RUN..pieces::START]);
+        }
+        answer
+    }
+    found(Engine { begin: wrong, ..SECOND }, Place::Search, 4, 120);
+}
+
+#[test]
+fn a_beginning_that_counts_on() {
+    fn wrong(model: &[u8], state: &[i64], under_way: &mut [i64], name: &[u8], depth: u64) -> Answer {
+        let before = under_way.to_vec();
+        let answer = begin(model, state, under_way, name, depth);
+        if answer.number == 0 {
+            under_way[pieces::COUNT] = before[pieces::COUNT];
+        }
+        answer
+    }
+    found(Engine { begin: wrong, ..SECOND }, Place::Search, 4, 120);
+}
+
+#[test]
+fn a_search_that_is_under_way_after_its_end() {
+    fn wrong(model: &[u8], state: &[i64], under_way: &mut [i64], number: u64) -> Progress {
+        let before = under_way.to_vec();
+        let progress = carry_on(model, state, under_way, number);
+        if progress.ended == 1 {
+            under_way.copy_from_slice(&before);
+        }
+        progress
+    }
+    found(Engine { carry_on: wrong, ..SECOND }, Place::Search, 3, 60);
+}
+
+#[test]
+fn a_search_that_forgets_a_refusal() {
+    fn wrong(model: &[u8], state: &[i64], under_way: &mut [i64], number: u64) -> Progress {
+        let progress = carry_on(model, state, under_way, number);
+        if progress.number == 0 {
+            under_way[pieces::MET] = 0;
+        }
+        progress
+    }
+    found(Engine { carry_on: wrong, ..SECOND }, Place::Search, 3, 200);
+}
+
+#[test]
+fn a_search_that_notes_a_refusal_too_early() {
+    fn wrong(model: &[u8], state: &[i64], under_way: &mut [i64], number: u64) -> Progress {
+        let progress = carry_on(model, state, under_way, number);
+        let mut other = under_way.to_vec();
+        let next =
+            (progress.number == 0 && progress.ended == 0 && number > 0).then(|| carry_on(model, state, &mut other, 1));
+        if next.is_some_and(|next| next.number == 0 && next.ended == 0) {
+            under_way[pieces::MET] = other[pieces::MET];
+        }
+        progress
+    }
+    found(Engine { carry_on: wrong, ..SECOND }, Place::Search, 3, 200);
+}
+
+#[test]
+fn an_opening_that_leaves_the_search() {
+    fn wrong(text: &[u8], mut lent: Opening) -> Answer {
+        let before = lent.search.to_vec();
+        let answer = open(text, lent.again());
+        if answer.number == 0 {
+            lent.search.copy_from_slice(&before);
+        }
+        answer
+    }
+    found(Engine { open: wrong, ..SECOND }, Place::Search, 4, 120);
 }
 
 #[test]

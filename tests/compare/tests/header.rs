@@ -4,6 +4,9 @@
 use std::path::{Path, PathBuf};
 use std::process::Command;
 
+/// Lengths of buffers that the header has once the library has their calls.
+const OFFERED: &[(&str, usize)] = if cfg!(feature = "engine") { &[("SEARCH", second::SEARCH)] } else { &[] };
+
 fn repository() -> PathBuf {
     Path::new(env!("CARGO_MANIFEST_DIR")).join("../..")
 }
@@ -37,7 +40,7 @@ fn the_lengths_are_those_of_the_second_engine() {
         ("REPORT", second::REPORT),
         ("SAVES", second::SAVES),
     ];
-    for (name, length) in lengths {
+    for (name, length) in lengths.iter().chain(OFFERED) {
         let line = format!("#define MATGRAVEL_{name} {length}");
         assert!(header.lines().any(|one| one == line), "{line}");
     }

@@ -8,7 +8,7 @@ use compare::orders::{self, Tried};
 use compare::{lists, specimens, texts, with_stack};
 use second::generate::{Buffers, Call, Depth, Random, RIGHT, SECOND};
 use second::script::{self, Form};
-use second::{mazes, walks, Running, LISTING, MODEL, REPORT, SAVES, STATE};
+use second::{mazes, walks, Running, LISTING, MODEL, REPORT, SAVES, SEARCH, STATE};
 use std::path::{Path, PathBuf};
 use std::process::{Command, Stdio};
 
@@ -109,6 +109,10 @@ fn the_stack_that_the_header_names_is_enough() {
             let lent = Running { state: later, words: &[0, 0], waiting: &[7; 4], events, limit: 2, clock: time };
             let ran = (ENGINE.run)(model, lent);
             assert!(ran.number == 0 || ran.number >= 11);
+            let search = &mut buffers.search[..SEARCH];
+            let begun = (ENGINE.begin)(model, state, search, b"a", 1);
+            let carried = (ENGINE.carry_on)(model, state, search, 2);
+            assert!([0, 11].contains(&begun.number) && [0, 11, 27].contains(&carried.number));
             let timed = (ENGINE.timed_step)(model, state, listing, &[7, 7], 0, clock);
             assert!(timed.number == 0 || timed.number >= 11);
             let stepped = (ENGINE.step)(model, state, listing, 0);
@@ -130,6 +134,24 @@ fn a_search_needs_no_more_stack() {
                 let call = buffers.exact(&call);
                 let mut second = buffers.clone();
                 assert_eq!(buffers.make(&ENGINE, &call), second.make(&SECOND, &call), "seed {seed}");
+            }
+        }
+    };
+    let thread = std::thread::Builder::new().stack_size(defined("STACK")).spawn(searches).expect("a thread");
+    thread.join().expect("no panic");
+}
+
+/// Searches of mazes in pieces, damaged ones too, on a thread with that stack.
+#[test]
+fn a_search_in_pieces_needs_no_more_stack() {
+    let searches = || {
+        for seed in 0..40 {
+            let mut buffers = Buffers::default();
+            for call in mazes::in_pieces(&mut Random::new(seed)) {
+                let call = buffers.exact(&call);
+                if !buffers.walks_many(&call) {
+                    buffers.make(&ENGINE, &call);
+                }
             }
         }
     };

@@ -45,6 +45,13 @@ fn the_script() {
 }
 
 #[test]
+fn the_search_in_pieces() {
+    let blocks = blocks(&file("docs/USING.md"));
+    let script = blocks.iter().position(|block| block.contains("\ncarry ")).expect("a script");
+    assert_eq!(script::print(&SECOND, blocks[script].as_bytes(), Form::Plain), blocks[script + 1]);
+}
+
+#[test]
 fn the_refused_text() {
     let text = "A[]={go,1}.(B[];B[]={go,1};A[];";
     assert!(file("docs/USING.md").contains(&format!("`{text}` is refused with 5 at 15")));

@@ -4,10 +4,11 @@ use crate::clock::Clock;
 use crate::engine;
 use crate::independent;
 use crate::listing::FIELDS;
+use crate::pieces;
 use crate::ran::{self, Ran, Running, EVENT};
 use crate::search::{self, Walk};
 use crate::state::{Channel, Item, Pair, FIRST_PAIR, FIRST_PROCESS, PAIR, PROCESS};
-use crate::{Answer, Found, Opening, EVENTS, LISTING, MODEL, REPORT, SAVES, STATE};
+use crate::{Answer, Found, Opening, Progress, EVENTS, LISTING, MODEL, REPORT, SAVES, SEARCH, STATE};
 
 /// The lent buffers. All have a length they should have, but for a run's events, which may have any.
 #[derive(Clone, Copy, Debug, PartialEq, Eq)]
@@ -18,6 +19,7 @@ pub enum Buffer {
     Report,
     Saves,
     Events,
+    Search,
 }
 
 /// Lengths of what is lent. Those of buffers that a call isn't lent are the right ones.
@@ -29,10 +31,18 @@ pub struct Lengths {
     pub report: usize,
     pub saves: usize,
     pub events: usize,
+    pub search: usize,
 }
 
-pub const RIGHT: Lengths =
-    Lengths { model: MODEL, state: STATE, listing: LISTING, report: REPORT, saves: SAVES, events: EVENTS };
+pub const RIGHT: Lengths = Lengths {
+    model: MODEL,
+    state: STATE,
+    listing: LISTING,
+    report: REPORT,
+    saves: SAVES,
+    events: EVENTS,
+    search: SEARCH,
+};
 
 /// A draw, given by what it is to the total.
 #[derive(Clone, Copy, Debug, PartialEq, Eq)]
@@ -55,6 +65,8 @@ pub enum Word {
 
 /// A search that walks more runs takes too long.
 const MANY: usize = 3_000;
+/// So does one that comes upon more entries, one after the other.
+const FAR: usize = 60_000;
 
 /// A depth of a search, given by what it makes of it.
 #[derive(Clone, Copy, Debug, PartialEq, Eq)]
@@ -70,6 +82,7 @@ pub enum Given {
     Answer(Answer),
     Found(Found),
     Ran(Ran),
+    Progress(Progress),
 }
 
 impl Given {
@@ -78,14 +91,15 @@ impl Given {
             Given::Answer(answer) => answer.number,
             Given::Found(found) => found.number,
             Given::Ran(ran) => ran.number,
+            Given::Progress(progress) => progress.number,
         }
     }
 
-    /// The answer of a call that gives one: every call but a search and a run.
+    /// The answer of a call that gives one: every call but a search, one that carries it on, and a run.
     pub fn answer(&self) -> Option<&Answer> {
         match self {
             Given::Answer(answer) => Some(answer),
-            Given::Found(_) | Given::Ran(_) => None,
+            Given::Found(_) | Given::Ran(_) | Given::Progress(_) => None,
         }
     }
 
@@ -98,6 +112,9 @@ impl Given {
             Given::Found(Found { number, length, run }) => [&[*number, *length], &run[..]].concat(),
             Given::Ran(Ran { number, steps, words, waiting, count, total }) => {
                 vec![*number, *steps, *words, *waiting, *count, *total]
+            }
+            Given::Progress(Progress { number, count, ended, length, run }) => {
+                [&[*number, *count, *ended, *length], &run[..]].concat()
             }
         }
     }
@@ -157,6 +174,15 @@ pub enum Call {
         waiting: Vec<u16>,
         limit: u64,
     },
+    Begin {
+        lengths: Lengths,
+        name: Vec<u8>,
+        depth: Depth,
+    },
+    Carry {
+        lengths: Lengths,
+        number: u64,
+    },
     // Changes of the buffers between calls.
     SetState {
         place: usize,
@@ -170,6 +196,12 @@ pub enum Call {
         place: usize,
         number: i64,
     },
+    SetSearch {
+        place: usize,
+        number: i64,
+    },
+    /// No search is under way.
+    EndSearch,
     SetClock(Clock),
     /// The pairs of number channel 5 with one value from `first` on.
     Light {
@@ -200,7 +232,9 @@ impl Call {
             | Call::Return { lengths, .. }
             | Call::Forget { lengths, .. }
             | Call::Search { lengths, .. }
-            | Call::Run { lengths, .. } => Some(lengths),
+            | Call::Run { lengths, .. }
+            | Call::Begin { lengths, .. }
+            | Call::Carry { lengths, .. } => Some(lengths),
             _ => None,
         }
     }
@@ -210,18 +244,24 @@ impl Call {
         matches!(self, Call::Open { .. } | Call::Steady { .. })
     }
 
+    /// Is it a change of one number of a buffer, which often spoils it?
+    pub fn spoils(&self) -> bool {
+        matches!(self, Call::SetState { .. } | Call::SetModel { .. } | Call::SetSaves { .. } | Call::SetSearch { .. })
+    }
+
     /// Is the call lent this buffer? A change of the buffers is lent none.
     pub fn lends(&self, buffer: Buffer) -> bool {
-        let third = match self {
-            Call::List { .. } | Call::Step { .. } | Call::Timed { .. } => Buffer::Listing,
-            Call::Report { .. } => Buffer::Report,
-            Call::Open { .. } | Call::Steady { .. } => Buffer::Saves,
-            Call::Save { .. } | Call::Return { .. } | Call::Forget { .. } => Buffer::Saves,
-            Call::Search { .. } => Buffer::Model,
-            Call::Run { .. } => Buffer::Events,
+        let others: &[Buffer] = match self {
+            Call::Open { .. } | Call::Steady { .. } => &[Buffer::Saves, Buffer::Search],
+            Call::List { .. } | Call::Step { .. } | Call::Timed { .. } => &[Buffer::Listing],
+            Call::Report { .. } => &[Buffer::Report],
+            Call::Save { .. } | Call::Return { .. } | Call::Forget { .. } => &[Buffer::Saves],
+            Call::Search { .. } => &[],
+            Call::Run { .. } => &[Buffer::Events],
+            Call::Begin { .. } | Call::Carry { .. } => &[Buffer::Search],
             _ => return false,
         };
-        [Buffer::Model, Buffer::State, third].contains(&buffer)
+        matches!(buffer, Buffer::Model | Buffer::State) || others.contains(&buffer)
     }
 
     /// The call with these lengths, but the right ones for buffers that it isn't lent.
@@ -234,6 +274,7 @@ impl Call {
             report: of(Buffer::Report, lent.report, REPORT),
             saves: of(Buffer::Saves, lent.saves, SAVES),
             events: of(Buffer::Events, lent.events, EVENTS),
+            search: of(Buffer::Search, lent.search, SEARCH),
         };
         match &mut self {
             Call::Open { lengths, .. }
@@ -246,7 +287,9 @@ impl Call {
             | Call::Return { lengths, .. }
             | Call::Forget { lengths, .. }
             | Call::Search { lengths, .. }
-            | Call::Run { lengths, .. } => *lengths = trimmed,
+            | Call::Run { lengths, .. }
+            | Call::Begin { lengths, .. }
+            | Call::Carry { lengths, .. } => *lengths = trimmed,
             _ => {}
         }
         self
@@ -265,6 +308,8 @@ impl Call {
             Call::Forget { .. } => "forget",
             Call::Search { .. } => "search",
             Call::Run { .. } => "run",
+            Call::Begin { .. } => "begin",
+            Call::Carry { .. } => "carry",
             _ => "change",
         }
     }
@@ -287,6 +332,8 @@ pub struct Engine {
     pub forget: fn(&[u8], &[i64], &mut [i64], &[u8]) -> Answer,
     pub search: fn(&[u8], &[i64], &[u8], u64) -> Found,
     pub run: fn(&[u8], Running) -> Ran,
+    pub begin: fn(&[u8], &[i64], &mut [i64], &[u8], u64) -> Answer,
+    pub carry_on: fn(&[u8], &[i64], &mut [i64], u64) -> Progress,
     /// Of two entries of a listing.
     pub independent: fn(&[u64], &[u64]) -> bool,
 }
@@ -304,6 +351,8 @@ pub const SECOND: Engine = Engine {
     forget: crate::forget,
     search: crate::search,
     run: crate::run,
+    begin: crate::begin,
+    carry_on: crate::carry_on,
     independent: independent::independent,
 };
 
@@ -319,6 +368,7 @@ pub struct Buffers {
     pub report: Vec<u64>,
     pub saves: Vec<i64>,
     pub events: Vec<u64>,
+    pub search: Vec<i64>,
     pub clock: Clock,
 }
 
@@ -331,6 +381,7 @@ impl Default for Buffers {
             report: vec![0; REPORT + SPARE],
             saves: vec![0; SAVES + SPARE],
             events: vec![0; EVENTS + SPARE],
+            search: vec![0; SEARCH + SPARE],
             clock: Clock::default(),
         }
     }
@@ -345,7 +396,7 @@ impl Buffers {
         };
         let (draw, depth) = match call {
             Call::Step { draw, .. } | Call::Timed { draw, .. } => (self.draw(*draw), 0),
-            Call::Search { depth, .. } => (0, self.depth(*depth)),
+            Call::Search { depth, .. } | Call::Begin { depth, .. } => (0, self.depth(*depth)),
             _ => (0, 0),
         };
         let words = match call {
@@ -355,15 +406,20 @@ impl Buffers {
         let (model, state) = (&mut self.model[..lengths.model], &mut self.state[..lengths.state]);
         let (listing, report) = (&mut self.listing[..lengths.listing], &mut self.report[..lengths.report]);
         let (saves, clock) = (&mut self.saves[..lengths.saves], &mut self.clock);
+        let search = &mut self.search[..lengths.search];
         let answer = match call {
+            Call::Carry { number, .. } => {
+                return Some(Given::Progress((engine.carry_on)(model, state, search, *number)));
+            }
+            Call::Begin { name, .. } => (engine.begin)(model, state, search, name, depth),
             Call::Search { name, .. } => return Some(Given::Found((engine.search)(model, state, name, depth))),
             Call::Run { waiting, limit, .. } => {
                 let (events, limit) = (&mut self.events[..lengths.events], *limit);
                 let lent = Running { state, words: &words, waiting, events, limit, clock };
                 return Some(Given::Ran((engine.run)(model, lent)));
             }
-            Call::Open { text, .. } => (engine.open)(text, Opening { model, state, saves, clock }),
-            Call::Steady { text, .. } => (engine.open_steady)(text, Opening { model, state, saves, clock }),
+            Call::Open { text, .. } => (engine.open)(text, Opening { model, state, saves, search, clock }),
+            Call::Steady { text, .. } => (engine.open_steady)(text, Opening { model, state, saves, search, clock }),
             Call::List { .. } => (engine.list)(model, state, listing),
             Call::Step { .. } => (engine.step)(model, state, listing, draw),
             Call::Timed { waiting, .. } => (engine.timed_step)(model, state, listing, waiting, draw, clock),
@@ -390,6 +446,8 @@ impl Buffers {
             Call::SetState { place, number } => self.state[*place] = *number,
             Call::SetModel { place, byte } => self.model[*place] = *byte,
             Call::SetSaves { place, number } => self.saves[*place] = *number,
+            Call::SetSearch { place, number } => self.search[*place] = *number,
+            Call::EndSearch => self.search[..SEARCH].fill(0),
             Call::SetClock(clock) => self.clock = *clock,
             Call::Light { count, first } => {
                 self.state[1] = *count as i64;
@@ -441,6 +499,9 @@ impl Buffers {
             Call::Run { lengths, words, waiting, limit } => {
                 let words = self.words(words, waiting).into_iter().map(Word::Exactly).collect();
                 Call::Run { lengths: *lengths, words, waiting: waiting.clone(), limit: *limit }
+            }
+            Call::Begin { lengths, name, depth } => {
+                Call::Begin { lengths: *lengths, name: name.clone(), depth: Depth::Exactly(self.depth(*depth)) }
             }
             _ => call.clone(),
         }
@@ -494,10 +555,20 @@ impl Buffers {
         (1..=most).take_while(few).last().unwrap_or(1)
     }
 
-    /// Is it a search, with its depth as a number, that walks very many runs?
+    /// Is it a search, at once or in pieces, with its depth as a number, that walks very many runs, or one that was
+    /// changed by hand and is carried on very far?
     pub fn walks_many(&self, call: &Call) -> bool {
-        let &Call::Search { depth: Depth::Exactly(depth), .. } = call else { return false };
-        let within = |depth| self.depth(Depth::Within(depth, MANY)) == depth;
-        depth > 1 && depth <= search::DEPTH as u64 && !within(depth)
+        if let &Call::Carry { number, .. } = call {
+            let (model, state, search) = (&self.model[..MODEL], &self.state[..STATE], &self.search[..SEARCH]);
+            return pieces::takes_long(model, state, search, number, FAR);
+        }
+        let (&Call::Search { depth: Depth::Exactly(depth), .. } | &Call::Begin { depth: Depth::Exactly(depth), .. }) =
+            call
+        else {
+            return false;
+        };
+        let Some(depth) = search::depth_of(depth).filter(|&depth| depth > 1) else { return false };
+        let held = engine::held(&self.model[..MODEL], &self.state[..STATE]);
+        held.is_some_and(|(model, state)| Walk::new(model, state, depth).nth(MANY).is_some())
     }
 }

@@ -6,7 +6,7 @@ use crate::listing::{self, Entry, Kind, Listing, Offer, Offers};
 use crate::model::{self, Item, Model};
 use crate::saves::{self, Save, Saves};
 use crate::state::{self, Process, State};
-use crate::{Answer, LISTING, MODEL, REPORT, SAVES, STATE};
+use crate::{Answer, LISTING, MODEL, REPORT, SAVES, SEARCH, STATE};
 use std::rc::Rc;
 
 /// What an opening is lent besides the text. It zeroes or fills all of it (decision A3).
@@ -14,24 +14,28 @@ pub struct Opening<'a> {
     pub model: &'a mut [u8],
     pub state: &'a mut [i64],
     pub saves: &'a mut [i64],
+    pub search: &'a mut [i64],
     pub clock: &'a mut Clock,
 }
 
 impl Opening<'_> {
     /// The same, lent on.
     pub fn again(&mut self) -> Opening<'_> {
-        Opening { model: self.model, state: self.state, saves: self.saves, clock: self.clock }
+        let Opening { model, state, saves, search, clock } = self;
+        Opening { model, state, saves, search, clock }
     }
 
     fn fits(&self) -> bool {
-        self.model.len() == MODEL && self.state.len() == STATE && self.saves.len() == SAVES
+        let (model, state) = (self.model.len() == MODEL, self.state.len() == STATE);
+        model && state && self.saves.len() == SAVES && self.search.len() == SEARCH
     }
 
-    /// Makes it a fresh engine, which holds no model and has forgotten all saves.
+    /// Makes it a fresh engine, which holds no model, has forgotten all saves and has no search under way.
     fn clear(&mut self) {
         self.model.fill(0);
         self.state.fill(0);
         self.saves.fill(0);
+        self.search.fill(0);
         *self.clock = Clock::default();
     }
 }

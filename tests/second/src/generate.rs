@@ -5,13 +5,15 @@
 
 use crate::clock::{Clock, MOST};
 use crate::limits::{HIGHEST, LOWEST};
+use crate::mazes;
 use crate::model;
+use crate::pieces::{self, COUNTED};
 use crate::ran::EVENT;
 use crate::saves;
 use crate::state::{FIRST_PAIR, FIRST_PROCESS, PAIR, PROCESS};
 use crate::syntax::ITEMS;
 use crate::tokens::{self, Kind};
-use crate::{EVENTS, LISTING, MODEL, REPORT, SAVES, STATE};
+use crate::{EVENTS, LISTING, MODEL, REPORT, SAVES, SEARCH, STATE};
 
 pub use crate::calls::{Buffer, Buffers, Call, Depth, Draw, Engine, Given, Lengths, Word, RIGHT, SECOND, SPARE};
 
@@ -1043,10 +1045,11 @@ pub(crate) fn lent(random: &mut Random, call: Call) -> Call {
         report: wrong(REPORT),
         saves: wrong(SAVES),
         events,
+        search: wrong(SEARCH),
     })
 }
 
-pub(crate) fn some_step(random: &mut Random) -> Call {
+pub fn some_step(random: &mut Random) -> Call {
     let draw = some_draw(random);
     lent(random, Call::Step { lengths: RIGHT, draw })
 }
@@ -1193,6 +1196,81 @@ pub fn some_search(random: &mut Random) -> Call {
     lent(random, Call::Search { lengths: RIGHT, name, depth })
 }
 
+/// The beginning of a search, or some runs more of one.
+pub fn some_piece(random: &mut Random) -> Call {
+    if random.chance(25) {
+        let (name, depth) = (some_wait(random), some_depth(random, FEW));
+        return lent(random, Call::Begin { lengths: RIGHT, name, depth });
+    }
+    let number = match random.below(20) {
+        0 => *random.pick(&[COUNTED, COUNTED - 1, COUNTED - 2, COUNTED + 1, u64::MAX, u64::MAX - 1]),
+        1 | 2 => 0,
+        3..=8 => 1,
+        9..=12 => 2,
+        13..=16 => random.below(12) as u64,
+        _ => random.below(100) as u64,
+    };
+    lent(random, Call::Carry { lengths: RIGHT, number })
+}
+
+/// A number of the search changed, mostly one that stands before the state.
+pub fn some_change_of_search(random: &mut Random) -> Call {
+    let most = COUNTED as i64;
+    let odd = *random.pick(&[0, 1, -1, 9, 1_024, HIGHEST + 1, most + 1, i64::MAX, i64::MIN]);
+    let (place, number) = match random.below(14) {
+        0 | 1 => (pieces::DEPTH_PLACE, random.between(0, 9)),
+        2 => (pieces::WAIT, random.between(0, 6)),
+        3 | 4 => (pieces::COUNT, *random.pick(&[0, 1, 2, 100, most - 1, most, most + 1])),
+        5 | 6 => (pieces::MET, random.between(0, 2)),
+        7 | 8 => (pieces::LENGTH, random.between(0, 4)),
+        9 | 10 => (pieces::RUN + random.below(4), random.between(0, 4)),
+        11 => (random.below(pieces::START), odd),
+        12 => (pieces::START + random.below(30), random.between(0, 4)),
+        _ => (pieces::START + random.below(STATE), odd),
+    };
+    Call::SetSearch { place, number }
+}
+
+/// Such a change and what is made of it; then mostly no search is under way.
+pub fn some_spoilt_search(random: &mut Random) -> Vec<Call> {
+    let mut calls = vec![some_change_of_search(random), some_piece(random)];
+    while random.chance(40) {
+        calls.push(if random.chance(30) { some_change_of_search(random) } else { some_piece(random) });
+    }
+    if random.chance(80) {
+        calls.push(Call::EndSearch);
+    }
+    calls
+}
+
+/// A list of calls that begins searches and carries them on more often than it steps.
+pub fn searched_calls(random: &mut Random, most: usize) -> Vec<Call> {
+    let mut calls = Vec::new();
+    for _ in 0..1 + random.below(2) {
+        let text = match random.below(10) {
+            0 => some_text(random),
+            1..=3 => {
+                let which = random.between(16, 20) as usize;
+                edge_of_kind(random, which)
+            }
+            4..=6 => mazes::maze(random),
+            _ => lively(random),
+        };
+        calls.push(lent(random, Call::Open { text, lengths: RIGHT }));
+        for _ in 0..random.below(most + 1) {
+            match random.below(24) {
+                0 | 1 => calls.extend(some_spoilt_search(random)),
+                2..=4 => calls.push(some_step(random)),
+                5 => calls.push(some_stored(random)),
+                6 => calls.push(some_timed(random)),
+                7 => calls.push(some_search(random)),
+                _ => calls.push(some_piece(random)),
+            }
+        }
+    }
+    calls
+}
+
 /// A save, a return or a forget.
 pub fn some_stored(random: &mut Random) -> Call {
     let (lengths, name) = (RIGHT, some_name(random));
@@ -1229,7 +1307,8 @@ fn some_opening(random: &mut Random) -> Call {
 
 /// A change of the buffers that often spoils them.
 fn some_change(random: &mut Random) -> Call {
-    match random.below(14) {
+    match random.below(15) {
+        14 => some_change_of_search(random),
         12 => some_change_of_saves(random),
         13 => Call::SetClock(some_clock(random)),
         0..=5 => {
@@ -1347,7 +1426,7 @@ pub fn calls(random: &mut Random, most_steps: usize) -> Vec<Call> {
     // Before any text is open.
     if random.chance(10) {
         calls.extend([lent(random, LIST), some_step(random), lent(random, REPORTED), some_stored(random)]);
-        calls.extend([some_timed(random), some_search(random), some_run(random)]);
+        calls.extend([some_timed(random), some_search(random), some_run(random), some_piece(random)]);
     }
     for _ in 0..1 + random.below(3) {
         let opening = some_opening(random);
@@ -1362,7 +1441,7 @@ pub fn calls(random: &mut Random, most_steps: usize) -> Vec<Call> {
                 0 => {
                     let change = some_change(random);
                     // Few calls on buffers that may be spoilt.
-                    if let Call::SetState { .. } | Call::SetModel { .. } | Call::SetSaves { .. } = change {
+                    if change.spoils() {
                         left = left.min(4);
                     }
                     calls.push(change);
@@ -1373,6 +1452,7 @@ pub fn calls(random: &mut Random, most_steps: usize) -> Vec<Call> {
                 10..=15 => calls.push(some_timed(random)),
                 16 => calls.push(some_search(random)),
                 17 => calls.push(some_run(random)),
+                18 => calls.push(some_piece(random)),
                 _ => calls.push(some_step(random)),
             }
         }

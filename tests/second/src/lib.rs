@@ -16,6 +16,7 @@ pub mod listing;
 pub mod mazes;
 pub mod model;
 pub mod names;
+pub mod pieces;
 pub mod ran;
 pub mod reader;
 pub mod runs;
@@ -30,6 +31,7 @@ pub mod walks;
 
 pub use clock::Clock;
 pub use engine::{forget, list, open, open_steady, report, return_to, save, step, timed_step, Opening};
+pub use pieces::{begin, carry_on, Progress};
 pub use ran::{run, Ran, Running};
 pub use search::{search, Found};
 
@@ -45,12 +47,14 @@ pub const REPORT: usize = 64;
 /// Length of the saves buffer in signed 64-bit numbers: eight places of a name in two numbers, a state and a
 /// clock in two numbers.
 pub const SAVES: usize = 41_008;
+/// Length of the search buffer in signed 64-bit numbers: eight and the five before them, then a state.
+pub const SEARCH: usize = 5_135;
 
 /// Numbers of the events that the program `calls` lends to a run, which may be lent any number of them.
 pub const EVENTS: usize = 8_192;
 
 const _: () = assert!(EVENTS == listing::ENTRIES * ran::EVENT);
-const _: () = assert!(saves::BUFFER == SAVES);
+const _: () = assert!(saves::BUFFER == SAVES && pieces::START + STATE == SEARCH);
 const _: () = assert!(model::BUFFER == MODEL && state::BUFFER == STATE);
 const _: () = assert!(listing::BUFFER == LISTING && limits::DEFINITIONS == REPORT);
 

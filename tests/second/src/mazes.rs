@@ -1,6 +1,7 @@
 //! Small models for searches: few entries at a time, waits some steps away, refusals here and there.
 
-use crate::generate::{lent, some_step, some_stored, Call, Depth, Random, RIGHT};
+use crate::generate::{lent, some_spoilt_search, some_step, some_stored, Call, Depth, Random, RIGHT};
+use crate::pieces::COUNTED;
 
 /// The wait that is some steps away, one that is on the way, and others that some models have.
 const WAITS: [&str; 9] = ["go", "go", "go", "go", "step", "skip", "trap", "idle", "more"];
@@ -11,6 +12,8 @@ const OTHERS: [&[u8]; 9] =
 /// Runs that a search walks, at most, but for those of depth 1.
 const FEW: usize = 80;
 const MANY: usize = 300;
+/// The same of one that is carried on by one run after the other.
+const SINGLY: usize = 16;
 
 /// What stands beside the walker, so that a step of it is refused.
 #[derive(Clone, Copy, PartialEq, Eq)]
@@ -91,6 +94,14 @@ fn last_straw(random: &mut Random, goal: i64, beside: Beside) -> String {
     format!("[n=={at}]->{{more,1}}.({more})")
 }
 
+fn some_wait(random: &mut Random) -> Vec<u8> {
+    if random.chance(80) {
+        random.pick(&WAITS).as_bytes().to_vec()
+    } else {
+        random.pick(&OTHERS).to_vec()
+    }
+}
+
 /// A list of calls that searches a maze with every depth and many names, from several states.
 pub fn searches(random: &mut Random) -> Vec<Call> {
     let (text, lengths) = (maze(random), RIGHT);
@@ -103,11 +114,48 @@ pub fn searches(random: &mut Random) -> Vec<Call> {
         calls.push(Call::Search { lengths, name: b"go".to_vec(), depth });
     }
     for _ in 0..8 {
-        let name = if random.chance(80) { random.pick(&WAITS).as_bytes() } else { *random.pick(&OTHERS) };
-        let runs = if random.chance(20) { MANY } else { FEW };
+        let (name, runs) = (some_wait(random), if random.chance(20) { MANY } else { FEW });
         let depth = Depth::Within(random.between(1, 12).min(8) as u64, runs);
-        calls.push(lent(random, Call::Search { lengths, name: name.to_vec(), depth }));
+        calls.push(lent(random, Call::Search { lengths, name, depth }));
         calls.push(if random.chance(70) { some_step(random) } else { some_stored(random) });
+    }
+    calls
+}
+
+/// The beginning of a search that walks so many runs at most, but for one of depth 1.
+fn beginning(random: &mut Random, runs: usize) -> Call {
+    let depth = Depth::Within(random.between(1, 12).min(8) as u64, runs);
+    Call::Begin { lengths: RIGHT, name: some_wait(random), depth }
+}
+
+/// Such a search, carried on by some runs.
+pub fn begun(random: &mut Random) -> [Call; 2] {
+    let number = random.below(30) as u64;
+    [beginning(random, FEW), Call::Carry { lengths: RIGHT, number }]
+}
+
+/// A list of calls that searches a maze in pieces: by one run, by some, by none, past the end, other calls in between.
+pub fn in_pieces(random: &mut Random) -> Vec<Call> {
+    let (text, lengths) = (maze(random), RIGHT);
+    let mut calls = vec![Call::Open { text, lengths }];
+    if random.chance(30) {
+        calls.push(Call::Light { count: *random.pick(&[2, 255, 256, 256]), first: random.between(100, 101) });
+    }
+    for _ in 0..5 {
+        let singly = random.chance(30);
+        let begun = beginning(random, if singly { SINGLY } else { FEW });
+        calls.push(lent(random, begun));
+        let pieces = if singly { SINGLY + 2 } else { 2 + random.below(8) };
+        for _ in 0..pieces {
+            let number = if singly { 1 } else { *random.pick(&[0, 1, 2, 3, 5, 8, 20, 50, COUNTED - 4, COUNTED]) };
+            calls.push(lent(random, Call::Carry { lengths, number }));
+            match random.below(12) {
+                0 => calls.push(some_step(random)),
+                1 => calls.push(some_stored(random)),
+                2 => calls.extend(some_spoilt_search(random)),
+                _ => {}
+            }
+        }
     }
     calls
 }

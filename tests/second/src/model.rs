@@ -29,6 +29,8 @@ pub struct Model {
     pub channel_names: usize,
     /// The place of the first `(` or call name after which a continuation can leave more than one process (02, note 11).
     pub unsteady: Option<usize>,
+    /// The names of waits, by first appearance as a wait.
+    wait_names: Vec<Vec<u8>>,
 }
 
 #[derive(Debug)]
@@ -263,6 +265,10 @@ pub fn held_text(buffer: &[u8]) -> Option<&[u8]> {
 }
 
 impl Model {
+    pub fn wait_names(&self) -> &[Vec<u8>] {
+        &self.wait_names
+    }
+
     /// How many processes a call of a definition gives.
     pub fn processes_of(&self, definition: usize) -> usize {
         self.definitions[definition].sums.len()
@@ -319,6 +325,7 @@ impl<'a> Settler<'a> {
             system_start: self.names.tokens[tree.system_start].start,
             channel_names: self.channel_names.len(),
             unsteady: self.unsteady(),
+            wait_names: self.wait_names(),
         }
     }
 
@@ -333,6 +340,26 @@ impl<'a> Settler<'a> {
         });
         let calls = calls.filter(|name| tree.definitions[self.definition(*name)].sums.len() > 1);
         groups.chain(calls).min().map(|token| self.names.tokens[token].start)
+    }
+
+    fn wait_names(&self) -> Vec<Vec<u8>> {
+        let actions = self.names.tree.sums.iter().flat_map(|sum| &sum.branches).map(|branch| &branch.action);
+        let mut tokens: Vec<TokenId> = actions
+            .filter_map(|action| match action {
+                syntax::Action::Wait(name) => Some(*name),
+                _ => None,
+            })
+            .collect();
+        // The order of the text.
+        tokens.sort();
+        let mut names: Vec<Vec<u8>> = Vec::new();
+        for token in tokens {
+            let word = self.names.word(token);
+            if !names.iter().any(|name| name == word) {
+                names.push(word.to_vec());
+            }
+        }
+        names
     }
 
     fn system_item(&self, item: &syntax::SystemItem) -> SystemItem {

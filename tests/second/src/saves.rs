@@ -41,8 +41,8 @@ pub fn is_name(name: &[u8]) -> bool {
 pub fn pack(name: &[u8]) -> [i64; NAME] {
     let mut bytes = [0; LETTERS];
     bytes[..name.len()].copy_from_slice(name);
-    let number = |part: &[u8]| part.iter().rev().fold(0, |number, &byte| number * 256 + i64::from(byte));
-    [number(&bytes[..PACKED]), number(&bytes[PACKED..])]
+    let number = |first: usize| i64::from_le_bytes(std::array::from_fn(|byte| bytes[first + byte]));
+    [number(0), number(PACKED)]
 }
 
 /// The name that two numbers hold, if they hold one.

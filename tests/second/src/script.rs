@@ -3,7 +3,8 @@
 //! A script has lines `open N` and `steady N` (N bytes and a newline follow), `list`, `step D`, `wait W` (a waiting
 //! draw for the next timed step or run), `time D` (a timed step), `word W` (a word for the next run), `run N` (a run of at
 //! most N steps, with room for 1,024 events, which are printed), `report`, `save NAME`, `return NAME`, `forget NAME` (all bytes
-//! of the line after the blank), `seek D NAME` (a search to the depth D, one digit; all bytes after the second), `state`, `clock` and `independent I J` (of two entries of the listing buffer: 1 or 0).
+//! of the line after the blank), `seek D NAME` (a search to the depth D, one digit; all bytes after the second), `begin D NAME`
+//! (the same in pieces), `carry N`, `state`, `clock` and `independent I J` (of two entries of the listing buffer: 1 or 0).
 //! Every line ends with a newline, words stand one blank apart, numbers are digits alone. A line of
 //! another form, or an opening without its N bytes, ends the run with `bad` and its number, which
 //! counts every newline before it, those of texts too.
@@ -14,7 +15,7 @@
 use crate::clock::Clock;
 use crate::generate::{Buffers, Call, Depth, Draw, Engine, Given, Lengths, Word, RIGHT, SPARE};
 use crate::ran::EVENT;
-use crate::{Answer, EVENTS, LISTING, MODEL, REPORT, SAVES, STATE};
+use crate::{Answer, EVENTS, LISTING, MODEL, REPORT, SAVES, SEARCH, STATE};
 use std::fmt::Write;
 
 /// Numbers of a listing entry.
@@ -84,11 +85,16 @@ fn line(call: &Call) -> Vec<u8> {
             let head = format!("{}{} ", lengths_line(lengths), call.name());
             return [head.as_bytes(), name, b"\n"].concat();
         }
-        Call::Search { lengths, name, depth: Depth::Exactly(depth) } => {
-            let head = format!("{}seek {depth} ", lengths_line(lengths));
+        Call::Search { lengths, name, depth: Depth::Exactly(depth) }
+        | Call::Begin { lengths, name, depth: Depth::Exactly(depth) } => {
+            let word = if matches!(call, Call::Search { .. }) { "seek" } else { "begin" };
+            let head = format!("{}{word} {depth} ", lengths_line(lengths));
             return [head.as_bytes(), name, b"\n"].concat();
         }
-        Call::Search { .. } => unreachable!("a depth that isn't a number"),
+        Call::Search { .. } | Call::Begin { .. } => unreachable!("a depth that isn't a number"),
+        Call::Carry { lengths, number } => format!("{}carry {number}\n", lengths_line(lengths)),
+        Call::SetSearch { place, number } => format!("! search {place} {number}\n"),
+        Call::EndSearch => "! search none\n".to_string(),
         Call::SetSaves { place, number } => format!("! saves {place} {number}\n"),
         Call::SetClock(clock) => format!("! clock {} {}\n", clock.ticks, clock.draws),
         Call::SetState { place, number } => format!("! state {place} {number}\n"),
@@ -117,8 +123,8 @@ fn lengths_line(lengths: &Lengths) -> String {
     if *lengths == RIGHT {
         return String::new();
     }
-    let Lengths { model, state, listing, report, saves, events } = lengths;
-    format!("! lengths {model} {state} {listing} {report} {saves} {events}\n")
+    let Lengths { model, state, listing, report, saves, events, search } = lengths;
+    format!("! lengths {model} {state} {listing} {report} {saves} {events} {search}\n")
 }
 
 /// Reads a script, up to the first line of another form: the lines before it, and its number
@@ -177,11 +183,12 @@ impl Reader<'_> {
             return None;
         }
         let lengths = self.lengths;
-        if let ["!", "lengths", model, state, listing, report, saves, events] = words[..] {
+        if let ["!", "lengths", model, state, listing, report, saves, events, search] = words[..] {
             let (model, state) = (length(model, MODEL)?, length(state, STATE)?);
             let (listing, report) = (length(listing, LISTING)?, length(report, REPORT)?);
             let (saves, events) = (length(saves, SAVES)?, length(events, EVENTS)?);
-            self.lengths = Lengths { model, state, listing, report, saves, events };
+            let search = length(search, SEARCH)?;
+            self.lengths = Lengths { model, state, listing, report, saves, events, search };
             return Some(None);
         }
         if let ["word", word] = words[..] {
@@ -238,13 +245,17 @@ fn named(line: &[u8], lengths: Lengths, form: Form) -> Option<Call> {
         b"save" => Some(Call::Save { lengths, name: name.to_vec() }),
         b"return" => Some(Call::Return { lengths, name: name.to_vec() }),
         b"forget" => Some(Call::Forget { lengths, name: name.to_vec() }),
-        b"seek" => {
+        b"seek" | b"begin" => {
             let (depth, name) = parted(name)?;
             if form == Form::Plain && depth.len() != 1 {
                 return None;
             }
             let depth = Depth::Exactly(whole(std::str::from_utf8(depth).ok()?)?);
-            Some(Call::Search { lengths, name: name.to_vec(), depth })
+            let name = name.to_vec();
+            Some(match word {
+                b"seek" => Call::Search { lengths, name, depth },
+                _ => Call::Begin { lengths, name, depth },
+            })
         }
         _ => None,
     }
@@ -265,9 +276,14 @@ fn short_line(words: &[&str], lengths: Lengths) -> Option<Line> {
         ["list"] => Call::List { lengths },
         ["step", draw] => Call::Step { lengths, draw: Draw::Exactly(whole(draw)?) },
         ["report"] => Call::Report { lengths },
+        ["carry", number] => Call::Carry { lengths, number: whole(number)? },
         ["!", "state", place, number] => Call::SetState { place: length(place, STATE)?, number: number.parse().ok()? },
         ["!", "model", place, byte] => Call::SetModel { place: length(place, MODEL)?, byte: whole(byte)? },
         ["!", "saves", place, number] => Call::SetSaves { place: length(place, SAVES)?, number: number.parse().ok()? },
+        ["!", "search", "none"] => Call::EndSearch,
+        ["!", "search", place, number] => {
+            Call::SetSearch { place: length(place, SEARCH)?, number: number.parse().ok()? }
+        }
         ["!", "clock", ticks, draws] => Call::SetClock(Clock { ticks: whole(ticks)?, draws: whole(draws)? }),
         ["!", "light", count, first] => Call::Light { count: whole(count)?, first: first.parse().ok()? },
         ["!", "crowd", count] => Call::Crowd { count: whole(count)? },

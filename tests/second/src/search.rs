@@ -7,7 +7,6 @@ use crate::model::{Action, Model};
 use crate::runs::Runs;
 use crate::state::State;
 use crate::{MODEL, STATE};
-use std::collections::VecDeque;
 use std::rc::Rc;
 
 /// The greatest depth.
@@ -71,24 +70,45 @@ pub struct Run {
 }
 
 /// Walks the runs of at most a depth over entries above weight zero, each taken unrefused: by length from zero, then by
-/// entry numbers.
+/// entry numbers. Each length is walked from the start anew, so that a refusal that shorter runs met is met again.
 pub struct Walk {
     model: Rc<Model>,
+    start: State,
     depth: usize,
-    /// The run to come first, until it has.
-    start: Option<Run>,
-    /// Walked, and not gone on from yet.
-    waiting: VecDeque<Run>,
-    /// The one gone on from, its listing, and which entry is next.
-    at: Option<(Run, Present, usize)>,
-    /// Has a run of less than the depth met a refusal: its listing, or one more entry?
+    /// The length of the runs that are walked now; `None` before the first.
+    length: Option<usize>,
+    /// The states along the run that is walked now, all but its end, each with the number of the entry that is next.
+    along: Vec<(Present, usize)>,
+    /// Was a refusal met: the listing of a run shorter than the depth, or one more entry of it?
     pub meets_refusal: bool,
 }
 
+/// What a walk comes upon next.
+enum Event {
+    Run(Run),
+    Refusal,
+    /// Neither.
+    Nothing,
+}
+
 impl Walk {
-    pub fn new(model: Rc<Model>, state: State, depth: usize) -> Walk {
-        let start = Some(Run { entries: Vec::new(), state, last: None });
-        Walk { model, depth, start, waiting: VecDeque::new(), at: None, meets_refusal: false }
+    pub fn new(model: Rc<Model>, start: State, depth: usize) -> Walk {
+        Walk { model, start, depth, length: None, along: Vec::new(), meets_refusal: false }
+    }
+
+    /// The walk as it goes on from a run, which must be one from the start.
+    pub fn after(model: Rc<Model>, start: State, depth: usize, run: &[u64]) -> Option<Walk> {
+        let mut walk = Walk::new(model, start, depth);
+        walk.length = Some(run.len());
+        let mut state = walk.start.clone();
+        for &number in run {
+            let present = engine::listed(&walk.model, state).ok()?;
+            let number = usize::try_from(number).ok()?;
+            let entry = present.listing.entries.get(number).filter(|entry| entry.weight > 0)?;
+            state = engine::taken(&present, entry).ok()?;
+            walk.along.push((present, number + 1));
+        }
+        Some(walk)
     }
 
     /// Is the last entry of a run a wait of this name?
@@ -98,18 +118,61 @@ impl Walk {
         matches!(action, Action::Wait(wait) if wait == name)
     }
 
-    /// Goes on from the next run that has a listing. False: there is none.
-    fn go_on(&mut self) -> bool {
-        while let Some(run) = self.waiting.pop_front() {
-            match engine::listed(&self.model, run.state.clone()) {
-                Err(_) => self.meets_refusal = true,
-                Ok(present) => {
-                    self.at = Some((run, present, 0));
-                    return true;
-                }
+    /// Does the walk to so many runs more, or to its end, come upon more than so much?
+    pub fn takes_long(&mut self, runs: u64, most: usize) -> bool {
+        let mut left = runs;
+        for _ in 0..most {
+            match self.onward() {
+                Some(Event::Run(_)) if left > 1 => left -= 1,
+                Some(Event::Refusal | Event::Nothing) => {}
+                _ => return false,
             }
         }
-        false
+        true
+    }
+
+    /// `None`: at the end.
+    fn onward(&mut self) -> Option<Event> {
+        let Some((present, next)) = self.along.last_mut() else { return self.next_length() };
+        let Some(entry) = present.listing.entries.get(*next).copied() else {
+            self.along.pop();
+            return Some(Event::Nothing);
+        };
+        *next += 1;
+        if entry.weight == 0 {
+            return Some(Event::Nothing);
+        }
+        let Ok(state) = engine::taken(present, &entry) else { return Some(Event::Refusal) };
+        let sum = present.state.processes[entry.place].sum;
+        if Some(self.along.len()) < self.length {
+            return Some(self.go_deeper(state));
+        }
+        let entries = self.along.iter().map(|(_, next)| *next as u64 - 1).collect();
+        Some(Event::Run(Run { entries, state, last: Some((entry, sum)) }))
+    }
+
+    /// The runs that are one longer, from the start.
+    fn next_length(&mut self) -> Option<Event> {
+        let length = self.length.map_or(0, |length| length + 1);
+        if length > self.depth {
+            return None;
+        }
+        self.length = Some(length);
+        let start = self.start.clone();
+        Some(match length {
+            0 => Event::Run(Run { entries: Vec::new(), state: start, last: None }),
+            _ => self.go_deeper(start),
+        })
+    }
+
+    fn go_deeper(&mut self, state: State) -> Event {
+        match engine::listed(&self.model, state) {
+            Err(_) => Event::Refusal,
+            Ok(present) => {
+                self.along.push((present, 0));
+                Event::Nothing
+            }
+        }
     }
 }
 
@@ -117,39 +180,12 @@ impl Iterator for Walk {
     type Item = Run;
 
     fn next(&mut self) -> Option<Run> {
-        if let Some(start) = self.start.take() {
-            self.waiting.push_back(start.clone());
-            return Some(start);
-        }
         loop {
-            let Some((run, present, next)) = &mut self.at else {
-                if self.go_on() {
-                    continue;
-                }
-                return None;
-            };
-            let number = *next;
-            let Some(entry) = present.listing.entries.get(number).copied() else {
-                self.at = None;
-                continue;
-            };
-            *next += 1;
-            if entry.weight == 0 {
-                continue;
+            match self.onward()? {
+                Event::Run(run) => return Some(run),
+                Event::Refusal => self.meets_refusal = true,
+                Event::Nothing => {}
             }
-            let Ok(state) = engine::taken(present, &entry) else {
-                self.meets_refusal = true;
-                continue;
-            };
-            let mut entries = run.entries.clone();
-            entries.push(number as u64);
-            let sum = present.state.processes[entry.place].sum;
-            let longer = Run { entries, state, last: Some((entry, sum)) };
-            // At full depth no listing is made.
-            if longer.entries.len() < self.depth {
-                self.waiting.push_back(longer.clone());
-            }
-            return Some(longer);
         }
     }
 }

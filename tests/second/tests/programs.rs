@@ -240,6 +240,40 @@ bad,9
 }
 
 #[test]
+fn calls_searches_in_pieces() {
+    let text = "A[n]={a,1}.A[n+1]+[n>0]->{bb,1};A[0];";
+    let script = format!(
+        "carry 1\nopen {}\n{text}\ncarry 1\nbegin 9 bb\nbegin 8 bb\ncarry 0\ncarry 2\nstep 0\ncarry 9\ncarry 1\ncarry\n",
+        text.len()
+    );
+    let expected = "11 0 0 0 0 0 0 0 0 0 0 0
+0 0 0 0 0 0
+28 0 0 0 0 0 0 0 0 0 0 0
+26 0 0 0 0 0
+0 0 0 0 0 0
+0 0 0 0 0 0 0 0 0 0 0 0
+0 2 0 0 0 0 0 0 0 0 0 0
+0 0 0 1 100000000 0
+  1 0 0 0 0 0 100000000
+0 4 1 2 0 1 0 0 0 0 0 0
+28 0 0 0 0 0 0 0 0 0 0 0
+bad,12
+";
+    assert_eq!(calls(&script), expected);
+    for line in [
+        "begin\n",
+        "begin 1\n",
+        "begin a 1\n",
+        "begin 10 a\n",
+        "carry -1\n",
+        "carry 18446744073709551616\n",
+        "carry 1 2\n",
+    ] {
+        assert_eq!(calls(line), "bad,1\n", "{line:?}");
+    }
+}
+
+#[test]
 fn calls_opens_under_the_steady_profile() {
     let (one, two) = ("A[]={a,1}.(A[]);A[];", "A[]={a,1}.(A[]||A[]);A[];");
     let script = format!(

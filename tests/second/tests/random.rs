@@ -3,10 +3,11 @@
 //! weights, and every refusal is met.
 
 use second::generate::*;
+use second::pieces::{COUNT, LENGTH, MET, START};
 use second::ran::EVENT;
 use second::state::{DEFINITION, FIRST_PROCESS, PROCESS};
 use second::{mazes, model, saves, state, walks};
-use second::{Answer, Clock, Found, Ran, LISTING, MODEL, REPORT, SAVES, STATE};
+use second::{Answer, Clock, Found, Progress, Ran, LISTING, MODEL, REPORT, SAVES, SEARCH, STATE};
 use std::collections::BTreeMap;
 
 /// How many seeds to try: the number given, unless the environment has SEEDS.
@@ -31,6 +32,7 @@ fn check(call: &Call, before: &Buffers, given: &Given, after: &Buffers) {
         Given::Answer(answer) => answer,
         Given::Found(_) => return check_search(call, before, given, after),
         Given::Ran(ran) => return check_run(call, before, ran, after),
+        Given::Progress(progress) => return check_progress(call, before, progress, after),
     };
     let number = answer.number;
     assert!(number == 12 || answer.branch == 0);
@@ -59,10 +61,40 @@ fn check(call: &Call, before: &Buffers, given: &Given, after: &Buffers) {
             check_shown(call, before, answer, after);
             check_time(*draw, waiting, before, answer, after);
         }
+        Call::Begin { .. } => {
+            assert!([0, 11, 26].contains(&number) && *answer == Answer::refusal(number));
+            let mut same = after.clone();
+            same.search.clone_from(&before.search);
+            assert!(same == *before && (number == 0 || after.search == before.search));
+        }
         Call::Save { name, .. } | Call::Return { name, .. } | Call::Forget { name, .. } => {
             check_stored(call, name, before, answer, after);
         }
         _ => unreachable!("changes have no answer"),
+    }
+}
+
+/// Carrying on touches the search alone, which is zeros once it ended.
+fn check_progress(call: &Call, before: &Buffers, progress: &Progress, after: &Buffers) {
+    let number = progress.number;
+    assert_eq!(number == 1, call.lengths() != Some(&RIGHT));
+    let mut same = after.clone();
+    same.search.clone_from(&before.search);
+    assert!(same == *before);
+    match number {
+        0 | 27 => {
+            assert!(number == 0 || progress.ended == 1);
+            assert_eq!(progress.ended == 1, all_zero(&after.search[..SEARCH]));
+            assert!(progress.ended == 1 || progress.length == 0);
+            assert!(progress.count >= before.search[COUNT] as u64);
+            if progress.ended == 0 {
+                assert_eq!(after.search[COUNT], progress.count as i64);
+                assert!(after.search[MET] >= before.search[MET] && after.search[LENGTH] >= before.search[LENGTH]);
+                assert!(after.search[..COUNT] == before.search[..COUNT]);
+                assert!(after.search[START..] == before.search[START..]);
+            }
+        }
+        _ => assert!([1, 11, 28].contains(&number) && *progress == Progress::refusal(number) && before == after),
     }
 }
 
@@ -132,6 +164,7 @@ fn check_opening(call: &Call, text: &[u8], before: &Buffers, answer: &Answer, af
     assert_eq!((answer.count, answer.total, answer.chosen), (0, 0, 0));
     assert!(before.listing == after.listing && before.report == after.report);
     assert!(all_zero(&after.saves[..SAVES]) && after.clock == Clock::default());
+    assert!(all_zero(&after.search[..SEARCH]));
     if answer.number > 1 {
         assert!(answer.place as usize <= text.len());
         assert!(after.model[..MODEL].iter().all(|&byte| byte == 0));
@@ -282,15 +315,21 @@ fn calls_of_all_kinds() {
         let _named = Named(seed);
         let mut random = Random::new(seed);
         let mut buffers = Buffers::default();
-        // Every tenth list goes through all limits, every tenth is mostly of saves, one of searches and one of runs.
+        // Every tenth list goes through all limits, every tenth is mostly of saves, one of searches, one of searches in
+        // pieces and one of runs.
         let list = match seed % 10 {
             9 => edge_calls(&mut random),
             8 => stored_calls(&mut random, 60),
             7 => mazes::searches(&mut random),
             6 => walks::walks(&mut random, seed as usize / 10),
+            5 if seed % 20 == 5 => searched_calls(&mut random, 60),
+            5 => mazes::in_pieces(&mut random),
             _ => calls(&mut random, 40),
         };
         for call in list {
+            if buffers.walks_many(&call) {
+                continue;
+            }
             let before = buffers.clone();
             let name = call.name();
             if let Some(given) = buffers.make(&SECOND, &call) {
@@ -308,7 +347,7 @@ fn calls_of_all_kinds() {
         println!("  {name} {number}: {times}");
     }
     println!("kinds of accepted steps: {:?}", &kinds[1..]);
-    for number in (0..=27).chain([29]) {
+    for number in 0..=29 {
         assert!(numbers.contains_key(&number), "{number} is never met");
     }
     for number in [0, 1, 11, 12, 13, 14] {

@@ -5,24 +5,28 @@ mod common;
 
 use common::*;
 use second::state::{FIRST_PAIR, FIRST_PROCESS, PROCESS};
-use second::{Answer, Clock, Opening, LISTING, MODEL, SAVES, STATE};
+use second::{Answer, Clock, Opening, LISTING, MODEL, SAVES, SEARCH, STATE};
 
 const PLAIN: &str = "A[]={go,1};A[];";
 
 #[test]
 fn one() {
     let text = PLAIN.as_bytes();
-    for lengths in wrong_lengths(SAVES) {
-        let (mut model, mut state, mut saves) = (vec![7; lengths.0], vec![-7; lengths.1], vec![-77; lengths.2]);
+    for wrong in 0..8 {
+        // One of the four is one shorter or one longer.
+        let length = |number: usize, right: usize| if wrong / 2 == number { right + wrong % 2 * 2 - 1 } else { right };
+        let (mut model, mut state) = (vec![7; length(0, MODEL)], vec![-7; length(1, STATE)]);
+        let (mut saves, mut search) = (vec![-77; length(2, SAVES)], vec![-777; length(3, SEARCH)]);
         // Before question 2, too.
         for text in [text, &[0; 20_000]] {
             let mut clock = Clock { ticks: 7, draws: u64::MAX };
-            let lent = Opening { model: &mut model, state: &mut state, saves: &mut saves, clock: &mut clock };
+            let (model, state) = (&mut model[..], &mut state[..]);
+            let lent = Opening { model, state, saves: &mut saves, search: &mut search, clock: &mut clock };
             assert_eq!(second::open(text, lent), Answer::refusal(1));
             assert_eq!(clock, Clock { ticks: 7, draws: u64::MAX });
         }
         assert!(model.iter().all(|&byte| byte == 7) && state.iter().all(|&number| number == -7));
-        assert!(saves.iter().all(|&number| number == -77));
+        assert!(saves.iter().all(|&number| number == -77) && search.iter().all(|&number| number == -777));
     }
     for lengths in wrong_lengths(LISTING) {
         let (model, mut state, mut listing) = (vec![7; lengths.0], vec![-7; lengths.1], vec![77; lengths.2]);

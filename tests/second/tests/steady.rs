@@ -5,7 +5,7 @@ mod common;
 use common::*;
 use second::generate::{lively, steady, Random};
 use second::state::PROCESSES;
-use second::{Answer, Clock, MODEL, SAVES, STATE};
+use second::{Answer, Clock, MODEL, SAVES, SEARCH, STATE};
 
 /// What a steady opening answers, from buffers full of rubbish; a plain one of the same text accepts it.
 fn opened(text: &str) -> (u64, u64) {
@@ -105,9 +105,11 @@ fn twenty_nine_closes_and_forgets() {
     let mut bench = Bench::of("A[]={a,1}.A[];A[];");
     bench.timed_step(0, &[7, 7]);
     bench.save("a");
+    bench.begin(8, "b");
     assert_eq!(bench.open_steady("A[]={a,1}.(A[]||A[]);A[];"), Answer { place: 10, ..Answer::refusal(29) });
     assert_eq!((bench.model.clone(), bench.state.clone()), (vec![0; MODEL], vec![0; STATE]));
-    assert_eq!((bench.saves.clone(), bench.clock), (vec![0; SAVES], Clock::default()));
+    assert_eq!((bench.saves.clone(), bench.under_way.clone()), (vec![0; SAVES], vec![0; SEARCH]));
+    assert_eq!(bench.clock, Clock::default());
     assert_eq!(bench.list(), Answer::refusal(11));
     // An accepted one forgets, too.
     let mut bench = Bench::of("A[]={a,1}.A[];A[];");
@@ -116,7 +118,7 @@ fn twenty_nine_closes_and_forgets() {
     assert_eq!(bench.saves, vec![0; SAVES]);
     // 1 changes nothing.
     let mut bench = Bench::dirty();
-    bench.saves.pop();
+    bench.under_way.pop();
     let before = bench.clone();
     assert_eq!(bench.open_steady("A[]={a,1}.(A[]||A[]);A[];"), Answer::refusal(1));
     assert!(bench == before);

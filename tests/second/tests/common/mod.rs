@@ -3,7 +3,7 @@
 #![allow(dead_code)]
 
 use second::state::{DEFINITION, FIRST_PAIR, FIRST_PROCESS, PAIR, PROCESS, VALUE_COUNT};
-use second::{Answer, Clock, Found, Opening, Ran, Running, LISTING, MODEL, REPORT, SAVES, STATE};
+use second::{Answer, Clock, Found, Opening, Progress, Ran, Running, LISTING, MODEL, REPORT, SAVES, SEARCH, STATE};
 
 #[derive(Clone, PartialEq, Eq)]
 pub struct Bench {
@@ -12,6 +12,7 @@ pub struct Bench {
     pub listing: Vec<u64>,
     pub report: Vec<u64>,
     pub saves: Vec<i64>,
+    pub under_way: Vec<i64>,
     pub clock: Clock,
 }
 
@@ -28,6 +29,7 @@ impl Bench {
             listing: vec![0; LISTING],
             report: vec![0; REPORT],
             saves: vec![0; SAVES],
+            under_way: vec![0; SEARCH],
             clock: Clock::default(),
         }
     }
@@ -40,6 +42,7 @@ impl Bench {
             listing: vec![77; LISTING],
             report: vec![777; REPORT],
             saves: vec![-77; SAVES],
+            under_way: vec![-777; SEARCH],
             clock: Clock { ticks: u64::MAX, draws: u64::MAX },
         }
     }
@@ -56,13 +59,13 @@ impl Bench {
     }
 
     pub fn open_bytes(&mut self, text: &[u8]) -> Answer {
-        let Bench { model, state, saves, clock, .. } = self;
-        second::open(text, Opening { model, state, saves, clock })
+        let Bench { model, state, saves, under_way: search, clock, .. } = self;
+        second::open(text, Opening { model, state, saves, search, clock })
     }
 
     pub fn open_steady(&mut self, text: &str) -> Answer {
-        let Bench { model, state, saves, clock, .. } = self;
-        second::open_steady(text.as_bytes(), Opening { model, state, saves, clock })
+        let Bench { model, state, saves, under_way: search, clock, .. } = self;
+        second::open_steady(text.as_bytes(), Opening { model, state, saves, search, clock })
     }
 
     pub fn timed_step(&mut self, draw: u64, waiting: &[u16]) -> Answer {
@@ -101,6 +104,14 @@ impl Bench {
     pub fn run(&mut self, words: &[u64], waiting: &[u16], events: &mut [u64], limit: u64) -> Ran {
         let Bench { model, state, clock, .. } = self;
         second::run(model, Running { state, words, waiting, events, limit, clock })
+    }
+
+    pub fn begin(&mut self, depth: u64, name: &str) -> Answer {
+        second::begin(&self.model, &self.state, &mut self.under_way, name.as_bytes(), depth)
+    }
+
+    pub fn carry_on(&mut self, number: u64) -> Progress {
+        second::carry_on(&self.model, &self.state, &mut self.under_way, number)
     }
 
     /// An accepted list's entries.
@@ -212,6 +223,7 @@ pub fn answer_to(text: &[u8]) -> (u64, u64) {
     let mut bench = Bench::dirty();
     let answer = bench.open_bytes(text);
     assert!(bench.saves.iter().all(|&number| number == 0));
+    assert!(bench.under_way.iter().all(|&number| number == 0));
     assert_eq!(bench.clock, Clock::default());
     assert_eq!((answer.branch, answer.count, answer.total, answer.chosen), (0, 0, 0, 0));
     if answer.number != 0 {

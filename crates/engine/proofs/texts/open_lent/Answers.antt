@@ -12,9 +12,9 @@ put_opened-requires c =
 
 pub returns-in-Err : goal.returns-in-Err
 returns-in-Err c =
-    λ ss z.
+    λ ss xs z y.
     let X = c.args.text.now in
-    rw (c.from-in-Err.ensures, c.from.ensures) (refused-gives X _ _ _ _ ss (refused-is X _ _ _ c.args.profile c.open_under-opened.ensures c.in-Err.is) c.put_fresh.ensures.0 c.put_fresh.ensures.1 z)
+    rw (c.from-in-Err.ensures, c.from.ensures) (refused-gives X _ _ _ _ ss xs (refused-is X _ _ _ c.args.profile c.open_under-opened.ensures c.in-Err.is) c.put_fresh.ensures.0 c.put_fresh.ensures.1 z y)
 
 pub shape_of-model-in-Ok : goal.shape_of-model-in-Ok
 shape_of-model-in-Ok c =
@@ -26,8 +26,8 @@ shape_of-state-in-Ok c =
 
 pub returns-in-Ok : goal.returns-in-Ok
 returns-in-Ok c =
-    λ ss z.
+    λ ss xs z y.
     let X = c.args.text.now in
     let o = opened-is X _ _ _ c.args.profile c.open_under-opened.ensures c.in-Ok.is in
     let t = c.tables-tables.ensures in
-    rw c.bare.ensures (accepted-gives X o.plain.model _ _ ss o.opens c.put_opened.ensures.bytes (c.put_opened.ensures.numbers o.plain.model (rw (t.0, t.2, t.3, t.4) (starts X _ _ _ o.plain))) z)
+    rw c.bare.ensures (accepted-gives X o.plain.model _ _ ss xs o.opens c.put_opened.ensures.bytes (c.put_opened.ensures.numbers o.plain.model (rw (t.0, t.2, t.3, t.4) (starts X _ _ _ o.plain))) z y)

@@ -1,7 +1,7 @@
 -- The head tells which of the words begins the line.
-use Rattle.lines.specs.declared.line.Line.TheVariants.{Open, Steady, Step, Time, Word, Run}
-use Rattle.lines.specs.Line.{small, ended, steadied, ran_by}
-use Rattle.lines.proofs.Heads.{says-list, says-state, says-report, says-open, says-step, says-save, says-return, says-forget, says-time, says-wait, says-clock, says-independent, says-steady, says-seek, says-word, says-run, joined-is, numbered-is, numbered-if, then-is, bare-is, not-bare, lettered-is, not-lettered}
+use Rattle.lines.specs.declared.line.Line.TheVariants.{Open, Steady, Step, Time, Word, Run, Carry}
+use Rattle.lines.specs.Line.{small, ended, steadied, carried_by, ran_by}
+use Rattle.lines.proofs.Heads.{says-list, says-state, says-report, says-open, says-step, says-save, says-return, says-forget, says-time, says-wait, says-clock, says-independent, says-steady, says-seek, says-word, says-begin, says-carry, says-run, joined-is, numbered-is, numbered-if, then-is, bare-is, not-bare, lettered-is, not-lettered}
 use Rattle.lines.proofs.line.Reading.says.Goals as goal
 use Rattle.lines.proofs.line.Reading.says.Goals.{in-Nothing, in_default-matches, in-T, in_default-matches-2, in-Nothing-matches, in_default-matches-3}
 
@@ -80,9 +80,18 @@ pub returns-in-1612482503712 : goal.returns-in-1612482503712
 returns-in-1612482503712 c =
     λ s h. says-word h c.in-1612482503712.is (numbered-is Word c.args.self.rest _ (rw c.number-in-1612482503712.ensures at c.map-in-1612482503712.ensures.cases))
 
+pub returns-in-1522119698798 : goal.returns-in-1522119698798
+returns-in-1522119698798 c =
+    λ s h. says-begin h c.in-1522119698798.is c.begin_line.ensures
+
+pub returns-in-1526348280441 : goal.returns-in-1526348280441
+unfolding carried_by
+returns-in-1526348280441 c =
+    λ s h. says-carry h c.in-1526348280441.is (numbered-if Carry _ c.args.self.mid _ _ c.number_if-in-1526348280441.ensures c.map-in-1526348280441.ensures.cases)
+
 pub returns-in_default : goal.returns-in_default
 unfolding ran_by
 returns-in_default c =
     λ s h.
     let m = c.in_default.in_default-own.rest in
-    says-run h m.0.0.0.0.0.0.0.0.0.0.0.0.0.0.1 m.0.0.0.0.0.0.0.0.0.0.0.0.0.1 m.0.0.0.0.0.0.0.0.0.0.0.0.1 m.0.0.0.0.0.0.0.0.0.0.0.1 m.0.0.0.0.0.0.0.0.0.0.1 m.0.0.0.0.0.0.0.0.0.1 m.0.0.0.0.0.0.0.0.1 m.0.0.0.0.0.0.0.1 m.0.0.0.0.0.0.1 m.0.0.0.0.0.1 m.0.0.0.0.1 m.0.0.0.1 m.0.0.1 m.0.1 m.1 (numbered-if Run _ c.args.self.early _ _ c.number_if-in_default.ensures c.map-in_default.ensures.cases)
+    says-run h m.0.0.0.0.0.0.0.0.0.0.0.0.0.0.0.0.1 m.0.0.0.0.0.0.0.0.0.0.0.0.0.0.0.1 m.0.0.0.0.0.0.0.0.0.0.0.0.0.0.1 m.0.0.0.0.0.0.0.0.0.0.0.0.0.1 m.0.0.0.0.0.0.0.0.0.0.0.0.1 m.0.0.0.0.0.0.0.0.0.0.0.1 m.0.0.0.0.0.0.0.0.0.0.1 m.0.0.0.0.0.0.0.0.0.1 m.0.0.0.0.0.0.0.0.1 m.0.0.0.0.0.0.0.1 m.0.0.0.0.0.0.1 m.0.0.0.0.0.1 m.0.0.0.0.1 m.0.0.0.1 m.0.0.1 m.0.1 m.1 (numbered-if Run _ c.args.self.early _ _ c.number_if-in_default.ensures c.map-in_default.ensures.cases)

@@ -1,6 +1,6 @@
 -- A head that is not full takes the byte; after a full one the rest does.
 use Rattle.std.proofs.Common.{arith}
-use Rattle.lines.specs.Line.{rest_next, late_next, early_next}
+use Rattle.lines.specs.Line.{rest_next, mid_next, late_next, early_next}
 use Rattle.lines.specs.Two.{two_next}
 use Rattle.lines.proofs.Heads.{short_on, long-on}
 use Rattle.lines.proofs.line.Reading.with.Goals as goal
@@ -11,6 +11,6 @@ returns-then-self-lt-FULL c =
     rw c.from.ensures (λ s h. short_on c.args.b c.next_rest-early.result c.next_kept-kept.result h (omega arith) c.if-self-lt-FULL.true c.next_rest-early.ensures c.next_kept-kept.ensures)
 
 pub returns : goal.returns
-unfolding rest_next two_next late_next early_next
+unfolding rest_next two_next mid_next late_next early_next
 returns c =
-    λ s h. long-on c.args.b c.next_rest-early.result c.with_byte.result c.next_after.result c.next_rest.result c.next_kept-kept.result c.with_byte-2.result h (omega arith) c.if-self-lt-FULL.false c.next_rest-early.ensures c.with_byte.ensures c.next_after.ensures c.next_rest.ensures c.next_kept-kept.ensures c.with_byte-2.ensures
+    λ s h. long-on c.args.b c.next_rest-early.result c.with_byte.result c.next_bytes.result c.next_rest.result c.next_rest-2.result c.next_bytes-2.result c.next_kept-kept.result c.with_byte-2.result h (omega arith) c.if-self-lt-FULL.false c.next_rest-early.ensures c.with_byte.ensures c.next_bytes.ensures c.next_rest.ensures c.next_rest-2.ensures c.next_bytes-2.ensures c.next_kept-kept.ensures c.with_byte-2.ensures

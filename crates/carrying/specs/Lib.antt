@@ -1,0 +1,2 @@
+-- What beginning a search and carrying it on give.
+pub mod Turns

@@ -1,0 +1,5 @@
+pub mod Events
+pub mod Resuming
+pub mod Lengths
+pub mod Carrying
+pub mod Following

@@ -1,0 +1,4 @@
+pub mod Standing
+pub mod Waits
+pub mod Under
+pub mod Told

@@ -1,0 +1,5 @@
+pub mod Buffer
+pub mod Head
+pub mod Written
+pub mod Entries
+pub mod Far

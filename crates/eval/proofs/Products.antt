@@ -1,19 +1,19 @@
 -- The tests of a rate's range, and products of a scale with a number, of any size. By cases of the signs.
 use mathlib.Core.Path.{◌≡◌, refl, sym, ap, ◌∙◌}
-use mathlib.Core.Bool.{Bool, true, false, cond}
+use mathlib.Core.Bool.{Bool, true, false, cond, not}
 use mathlib.Core.Option.{none, some}
-use Prim.Native.Nat.{ℕ, zero, suc, ◌*◌, ◌^◌, ◌≤◌, ◌<◌}
+use Prim.Native.Nat.{ℕ, zero, suc, ◌*◌, ◌≤◌}
 use native.Mathlib.Nat.{mul-le-mul, zero-mul, pos_of_ne-zero}
 use native.Mathlib.Omega.{arith}
-use borrow.Author.Tests.{ltb-true, lt-leb}
+use borrow.Author.Tests.{ltb-true}
 use lib.Dec.{leb}
 use lib.IntN.{ℤ, pos, negsuc, neg_ℤ, nat_abs, ◌*ℤ◌}
 use lib.Signed.{lt_z}
+use Rattle.value.proofs.Kit.{true-not-false, false-not-true}
 use Rattle.machine.specs.Evaluate.{rate_limit, in_rate}
-use Rattle.std.specs.Prelude.{Some, None, Ok, Err, Result, Option as RustOption}
+use Rattle.std.specs.Prelude.{Some, None, Ok, Err, Result}
 use Rattle.std.specs.Bool.{then_some}
 use Rattle.std.specs.Int.{FitsUnsignedBits}
-use Rattle.std.specs.Option.{SomeIff}
 use Rattle.std.specs.Result.{OkIff, result_ok}
 use mir.Syntax.{w64}
 use mir.Val.{SFits}
@@ -73,14 +73,27 @@ module _ (n : ℕ) (v : ℤ) where
           let g : 1 * 1 ≤ n * suc b = mul-le-mul m o in
           negative (n * suc b) (omega arith)
 
-  pub large-times : (s : ℕ) (r : RustOption ℕ) → v ≡ pos s → SomeIff r (n * s < 2 ^ 64) (n * s) → r ≡ None → None ≡ rate_of (in_rate (pos n *ℤ v))
-  unfolding rate_of in_rate
-  large-times s (Some p) e h d = cc
-  large-times s None e h d = rw (e, above) refl
-    where
-      above : leb (n * s) rate_limit ≡ false
-      above = lt-leb (n * s) rate_limit (omega (arith, h))
+  module _ {r : Bool} (l : lt_z v (pos 0) ≡ false) (e : r ≡ leb (n * nat_abs v) rate_limit) where
+    product-rate : rate_of (in_rate (pos n *ℤ v)) ≡ rate_of (cond r (some (n * nat_abs v)) none)
+    unfolding in_rate
+    product-rate = rw e (go v l)
+      where
+        go : (w : ℤ) → lt_z w (pos 0) ≡ false → rate_of (in_rate (pos n *ℤ w)) ≡ rate_of (cond (leb (n * nat_abs w) rate_limit) (some (n * nat_abs w)) none)
+        go (pos b) h = refl
+        go (negsuc b) h = true-not-false h
 
-  pub rate-times : (s p : ℕ) (r : RustOption ℕ) → v ≡ pos s → SomeIff r (n * s < 2 ^ 64) (n * s) → r ≡ Some p → then_some (leb p rate_limit) p ≡ rate_of (in_rate (pos n *ℤ v))
-  rate-times s p None e h d = cc
-  rate-times s p (Some q) e h d = let i : q ≡ p = cc in let j : p ≡ n * s = sym i ∙ h.1 in rw e (rw j (rate-natural (n * s)))
+    pub large-times : not r ≡ true → None ≡ rate_of (in_rate (pos n *ℤ v))
+    unfolding rate_of
+    large-times t = sym (product-rate ∙ go r t)
+      where
+        go : (r : Bool) → not r ≡ true → rate_of (cond r (some (n * nat_abs v)) none) ≡ None
+        go true t = false-not-true t
+        go false t = refl
+
+    pub rate-times : not r ≡ false → Some (n * nat_abs v) ≡ rate_of (in_rate (pos n *ℤ v))
+    unfolding rate_of
+    rate-times t = sym (product-rate ∙ go r t)
+      where
+        go : (r : Bool) → not r ≡ false → rate_of (cond r (some (n * nat_abs v)) none) ≡ Some (n * nat_abs v)
+        go true t = refl
+        go false t = true-not-false t

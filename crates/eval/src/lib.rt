@@ -223,7 +223,7 @@ fn rate_in(z: i64) -> Option<u64>
     (n <= RateRange::GREATEST).then_some(n)
 }
 
-// The product of a scale and a number, of any size.
+// The product of a scale and a number, of any size: whether it is a rate is decided before it is multiplied.
 fn scaled(n: u64, v: i64) -> Option<u64>
     ensures { result ≡ rate_of (in_rate (pos n *ℤ v)) }
 {
@@ -231,8 +231,10 @@ fn scaled(n: u64, v: i64) -> Option<u64>
         return Some(0);
     }
     let size = u64::try_from(v).ok()?;
-    let product = n.checked_mul(size)?;
-    (product <= RateRange::GREATEST).then_some(product)
+    if !value::product_within(n, size, RateRange::GREATEST) {
+        return None;
+    }
+    Some(n * size)
 }
 
 // What the scale at k comes to.

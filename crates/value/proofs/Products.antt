@@ -37,7 +37,7 @@ module _ (x y : ℤ) {r : Bool} (e : r ≡ leb (nat_abs x * nat_abs y) farthest)
   unfolding product_of
   product_is t = sym (in-value (x *ℤ y) (product-in t))
 
--- ---- as `mul_value` decides it
+-- ---- by what fits an i64
 pub product-unfit : (x y : ℤ) → (SFits w64 (x *ℤ y) → ⊥) → None ≡ product_of x y
 product-unfit x y h = by (leb (nat_abs x * nat_abs y) farthest) refl
   where

@@ -1,15 +1,19 @@
 -- The shifts by which a table's tail is rewritten, as equations of lists.
 use mathlib.Core.Path.{◌≡◌, sym, ap, ap₂, ◌∙◌}
-use mathlib.Core.List.{List, [], ◌++◌, append_assoc, append-nil}
+use mathlib.Core.List.{List, [], ◌∷◌, ◌++◌, append_assoc, append-nil}
 use Prim.Native.Nat.{ℕ, ◌+◌, ◌-◌, ◌*◌, ◌≤◌, ◌<◌}
+use native.Mathlib.Numerals.{add-one}
 use native.Mathlib.Omega.{arith}
 use lib.IntN.{ℤ, pos, nat_abs}
-use lib.ListN.{length, set, take, drop, replicate, length-append, length-take, length-drop, length-replicate, replicate-append-replicate, drop_of_length-le}
+use mir.Syntax.{w64}
+use mir.Val.{to_z}
+use lib.ListN.{length, set, take, drop, replicate, length-append, length-take, length-drop, length-set, length-replicate, replicate-append-replicate, drop_of_length-le}
 use borrow.Rule.Slice.PartMut.{put_mid, mid_of}
-use lib.Seq.{take_all, take_at, drop_at, take-add, take-append-le, drop-append-le, drop-append-add, take-append-add, drop-drop, length-take-le}
+use lib.Seq.{take_all, take_at, drop_at, take-add, take-append-le, drop-append-le, drop-append-add, take-append-add, drop-drop, length-take-le, take-suc-set, drop-set-lt, append_snoc}
 use Rattle.machine.specs.State.{state_length, pair_width, process_width}
-use Rattle.state.specs.Change.{rewritten, pair_added, pair_taken, process_replaced, pairs_from}
+use Rattle.state.specs.Change.{rewritten, pair_added, pair_taken, process_replaced, process_added, pairs_from}
 use Rattle.state.specs.Test.{at}
+use Rattle.value.proofs.Kit.{back}
 
 -- ---- a shift, then the fresh numbers
 module _ (l new : List ℤ) (cut count : ℕ) (n : length new ≡ count) (c : cut ≤ length l) (k : count ≤ length l) where
@@ -102,3 +106,27 @@ replaced s new ys place n k p q e =
     ap₂ (λ (l : List ℤ) (z : ℤ). set l 0 z)
     (part-changed (rewritten process_width new) (2 + place * process_width) s ys pairs_from (omega arith) e)
     (ap (λ (m : ℕ). pos (m - 1 + k)) q)
+
+-- a process written after the others
+pub pushed : (s fresh ys : List ℤ) (sum n k : ℕ) → length s ≡ state_length → n ≡ nat_abs (at s 0) → n < 256 → sum < 9223372036854775808 → ys ≡ fresh → k ≡ length fresh
+    → let u = set s (2 + n * process_width) (to_z w64 sum) in set (put_mid (2 + n * process_width + 1) k u ys) 0 (pos (n + 1)) ≡ process_added sum fresh s
+unfolding process_added
+pushed s fresh ys sum n k w q h g e c =
+    let a : ℕ = 2 + n * process_width in
+    let m : ℕ = length fresh in
+    let u : List ℤ = set s a (to_z w64 sum) in
+    let v : to_z w64 sum ≡ pos sum = back (pos sum) g in
+    let t : take (a + 1) u ≡ take a s ++ (to_z w64 sum ∷ []) = ap (λ (j : ℕ). take j u) (add-one a) ∙ take-suc-set s a (to_z w64 sum) (omega arith) in
+    let d : drop (a + 1) u ≡ drop (a + 1) s = drop-set-lt (a + 1) s a (to_z w64 sum) (omega arith) in
+    let r : take (a + 1) u ++ (fresh ++ drop m (drop (a + 1) u)) ≡ take a s ++ (pos sum ∷ (fresh ++ drop (a + 1 + m) s)) =
+    ap₂ (λ (l x : List ℤ). l ++ (fresh ++ drop m x)) t d
+    ∙ ap (λ (x : List ℤ). (take a s ++ (to_z w64 sum ∷ [])) ++ (fresh ++ x)) (drop-drop m (a + 1) s)
+    ∙ append_snoc (take a s) (to_z w64 sum) (fresh ++ drop (a + 1 + m) s)
+    ∙ ap (λ (z : ℤ). take a s ++ (z ∷ (fresh ++ drop (a + 1 + m) s))) v in
+    ap (λ (l : List ℤ). set l 0 (pos (n + 1))) (ap₂ (λ (l : List ℤ) (j : ℕ). take (a + 1) u ++ (l ++ drop j (drop (a + 1) u))) e c ∙ r)
+    ∙ ap (λ (i : ℕ). set (take (2 + i * process_width) s ++ (pos sum ∷ (fresh ++ drop (2 + i * process_width + 1 + m) s))) 0 (pos (i + 1))) q
+
+-- a buffer with room for it keeps its length
+pub added-length : (sum : ℕ) (ls zs : List ℤ) → 2 + nat_abs (at zs 0) * process_width + 1 + length ls ≤ length zs → length (process_added sum ls zs) ≡ length zs
+unfolding process_added
+added-length sum ls zs h = simp (length-set, length-append, length-take, length-drop) (omega arith)

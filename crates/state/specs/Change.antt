@@ -1,5 +1,6 @@
 -- A state's numbers after a change of its pairs or processes (01, State, step). Definitions only.
-use Rattle.std.specs.Prelude.{cond, List, [], ◌++◌, ℕ, ◌+◌, ◌-◌, ◌*◌, ℤ, pos, nat_abs, length, set, take, drop, replicate}
+use Rattle.std.specs.Prelude.{cond, List, [], ◌∷◌, ◌++◌, ℕ, ◌+◌, ◌-◌, ◌*◌, ℤ, pos, nat_abs, length, set, take, drop, replicate}
+use Rattle.model.specs.Limits.{local_limit}
 use Rattle.machine.specs.State.{process_width, pair_width, process_room}
 use Rattle.state.specs.Test.{at, rows, place_of, is_lit, pair_part}
 
@@ -40,3 +41,13 @@ pair_launched row zs = cond (is_lit row (pair_rows zs)) zs (pair_added (place_of
 -- 01, State, step: a kill takes its pair away if it is lit
 unfoldable pub pair_killed : List ℤ → List ℤ → List ℤ
 pair_killed row zs = cond (is_lit row (pair_rows zs)) (pair_taken (place_of row (pair_rows zs)) zs) zs
+
+-- 01, Open: the sum number and the locals of one more process, after the others
+unfoldable pub process_added : ℕ → List ℤ → List ℤ → List ℤ
+process_added sum locals zs =
+    let from : ℕ = 2 + nat_abs (at zs 0) * process_width in
+    set (take from zs ++ (pos sum ∷ (locals ++ drop (from + 1 + length locals) zs))) 0 (pos (nat_abs (at zs 0) + 1))
+
+-- 01, Open, and 02, note 6: one more process, after the others; its definition is the last of its numbers
+unfoldable pub process_pushed : ℕ → List ℤ → ℕ → List ℤ → List ℤ
+process_pushed sum locals definition zs = process_added sum locals (set zs (2 + nat_abs (at zs 0) * process_width + (1 + local_limit)) (pos definition))

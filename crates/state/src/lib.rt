@@ -8,7 +8,7 @@ ghost use Rattle.model.specs.Scope.{locals_in, definition_in};
 ghost use Rattle.value.specs.Arithmetic.{is_same};
 ghost use Rattle.rules.specs.Order.{less};
 ghost use Rattle.machine.specs.State.{pair_limit, process_width, channel_width, pair_width, state_length};
-ghost use Rattle.state.specs.Change.{rewritten, pair_rows, pair_added, pair_taken, pair_launched, pair_killed, process_replaced};
+ghost use Rattle.state.specs.Change.{rewritten, pair_rows, pair_added, pair_taken, pair_launched, pair_killed, process_replaced, process_added, process_pushed};
 ghost use Rattle.state.specs.Fits.{FewLocals, FewLocals-prop};
 ghost use Rattle.state.specs.Read.{Passed, process_count, pair_count, sum_at, locals_at, definition_number, pair_row};
 ghost use Rattle.state.specs.Test.{at, place_of, is_lit, values_past, every, rows, is_value, is_zero, is_below, is_padded, is_process, is_count, is_item, is_item_of, is_channel, is_pair, ascends, are_processes, are_pairs, is_state};
@@ -397,6 +397,30 @@ pub fn splice(state: &mut [i64], place: usize, fresh: &[i64], count: usize)
         &fresh[..count * Layout::PROCESS],
     );
     put_count(state, 0, n - 1 + count);
+}
+
+// The sum and the locals of one more process, after the others. No struct of a process: what is pushed is never held, each number goes to its place.
+fn put_process(state: &mut [i64], sum: usize, locals: &[i64])
+    requires { (length state.old ≡ state_length) × (is_below (process_limit + 1) (at state.old 0) ≡ true) × (nat_abs (at state.old 0) < process_limit) × (sum < 9223372036854775808) × (length locals.now ≤ local_limit) }
+    ensures { state.new ≡ process_added sum locals.now state.old }
+{
+    let n = counted(&state[..], 0);
+    let from = Layout::PROCESSES + n * Layout::PROCESS;
+    let first = from + 1;
+    state[from] = sum as i64;
+    state[first..first + locals.len()].copy_from_slice(locals);
+    put_count(state, 0, n + 1);
+}
+
+// One more process, after the others.
+pub fn push_process(state: &mut [i64], sum: usize, locals: &[i64], definition: usize)
+    requires { (length state.old ≡ state_length) × (is_below (process_limit + 1) (at state.old 0) ≡ true) × (nat_abs (at state.old 0) < process_limit) × (sum < 9223372036854775808) × (length locals.now ≤ local_limit) × (definition < 9223372036854775808) }
+    ensures { state.new ≡ process_pushed sum locals.now definition state.old }
+{
+    let n = counted(&state[..], 0);
+    let last = Layout::PROCESSES + n * Layout::PROCESS + Layout::DEFINITION;
+    state[last] = definition as i64;
+    put_process(state, sum, locals);
 }
 
 // The lit pairs of a state.

@@ -29,6 +29,15 @@ fn test(rt: &impl Print, label: &str, state: &Numbers) -> io::Result<()> {
 }
 
 // The changes ask `is_good` each for itself: what it ensures is what a change of a state requires.
+fn push(state: &mut Numbers, sum: u8, locals: &[i64], definition: u8) {
+    if is_good(state)
+        && state::process_count(state) + 1 < Layout::PROCESS_COUNTS
+        && locals.len() < Layout::DEFINITION
+    {
+        state::push_process(state, sum as usize, locals, definition as usize);
+    }
+}
+
 fn launch(state: &mut Numbers, row: &Row) {
     if is_good(state) && state::pair_count(state) + 1 < Layout::PAIR_COUNTS {
         state::launch_pair(state, row);
@@ -56,11 +65,9 @@ fn replace(state: &mut Numbers, place: usize, fresh: &[i64]) {
 // Three processes and three pairs.
 fn filled() -> Numbers {
     let mut state = [0; Layout::NUMBERS];
-    state[0] = 3;
-    let processes = [
-        0, 5, 7, 0, 0, 0, 0, 0, 0, 0, 2, 1, 2, 3, 4, 5, 6, 7, 8, 0, 1, 0, 0, 0, 0, 0, 0, 0, 0, 1,
-    ];
-    state[Layout::PROCESSES..Layout::PROCESSES + 3 * Layout::PROCESS].copy_from_slice(&processes);
+    push(&mut state, 0, &[5, 7], 0);
+    push(&mut state, 2, &[1, 2, 3, 4, 5, 6, 7, 8], 0);
+    push(&mut state, 1, &[0; 0], 1);
     launch(&mut state, &[1, 1, 1, 0, 0, 0, 0, 1, 9, 0]);
     launch(&mut state, &[1, 0, 4, 0, 0, 0, 0, 2, 1, 2]);
     launch(&mut state, &[1, 0, 4, 0, 0, 0, 0, 1, 1, 0]);

@@ -74,9 +74,9 @@ impl Channel {
 }
 
 // What the item at k comes to.
-fn item_of(context: Context, k: usize) -> Option<Item>
-    requires { (m : Resolved.Model) × Held (Settled.Item context.nodes.now) (GoodItem m (length context.locals.now)) k }
-    ensures { Worth (Settled.Item context.entry.nodes.now) (item_answer context.entry.locals.now) k result }
+fn item_of(context: &Context, k: usize) -> Option<Item>
+    requires { (m : Resolved.Model) × Held (Settled.Item context.now.nodes.now) (GoodItem m (length context.now.locals.now)) k }
+    ensures { Worth (Settled.Item context.now.nodes.now) (item_answer context.now.locals.now) k result }
 {
     let cell = crate::cell_at(context.nodes, k);
     if tree::kind_of(cell) == NodeKind::CHANNEL {
@@ -88,9 +88,9 @@ fn item_of(context: Context, k: usize) -> Option<Item>
 }
 
 // What the channel at k comes to.
-pub fn channel_of(context: Context, k: usize) -> Option<Channel>
-    requires { (m : Resolved.Model) × Held (Settled.Channel context.nodes.now) (GoodName m (length context.locals.now)) k }
-    ensures { Worth (Settled.Channel context.entry.nodes.now) (channel_answer context.entry.locals.now) k result }
+pub fn channel_of(context: &Context, k: usize) -> Option<Channel>
+    requires { (m : Resolved.Model) × Held (Settled.Channel context.now.nodes.now) (GoodName m (length context.now.locals.now)) k }
+    ensures { Worth (Settled.Channel context.now.nodes.now) (channel_answer context.now.locals.now) k result }
 {
     let cell = crate::cell_at(context.nodes, k);
     let kind = tree::kind_of(cell);

@@ -72,9 +72,9 @@ fn apply(kind: u8, x: i64, y: i64) -> Option<i64>
 }
 
 // What the expression at k comes to.
-pub fn eval_node(context: Context, k: usize) -> Option<i64>
-    requires { Held (Settled.Expr context.nodes.now) (GoodExpr (length context.locals.now)) k }
-    ensures { Worth (Settled.Expr context.entry.nodes.now) (eval_expr context.entry.locals.now) k result }
+pub fn eval_node(context: &Context, k: usize) -> Option<i64>
+    requires { Held (Settled.Expr context.now.nodes.now) (GoodExpr (length context.now.locals.now)) k }
+    ensures { Worth (Settled.Expr context.now.nodes.now) (eval_expr context.now.locals.now) k result }
 {
     let cell = cell_at(context.nodes, k);
     let kind = tree::kind_of(cell);
@@ -101,9 +101,9 @@ fn settled(kind: u8, p: bool) -> bool
 }
 
 // Whether v is in the set at k: in a range by two comparisons, as the definition has them. Let-elses, for one value as for two: both answer false of what has none.
-pub fn in_set(context: Context, k: usize, v: i64) -> bool
-    requires { Held (Settled.Set context.nodes.now) (GoodSet (length context.locals.now)) k }
-    ensures { Tells context.entry.nodes.now context.entry.locals.now v k result }
+pub fn in_set(context: &Context, k: usize, v: i64) -> bool
+    requires { Held (Settled.Set context.now.nodes.now) (GoodSet (length context.now.locals.now)) k }
+    ensures { Tells context.now.nodes.now context.now.locals.now v k result }
 {
     let cell = cell_at(context.nodes, k);
     let kind = tree::kind_of(cell);
@@ -134,9 +134,9 @@ pub fn in_set(context: Context, k: usize, v: i64) -> bool
 }
 
 // Whether all ends of the set at k have values.
-pub fn ends_known(context: Context, k: usize) -> bool
-    requires { Held (Settled.Set context.nodes.now) (GoodSet (length context.locals.now)) k }
-    ensures { Worth (Settled.Set context.entry.nodes.now) (ends_known context.entry.locals.now) k result }
+pub fn ends_known(context: &Context, k: usize) -> bool
+    requires { Held (Settled.Set context.now.nodes.now) (GoodSet (length context.now.locals.now)) k }
+    ensures { Worth (Settled.Set context.now.nodes.now) (ends_known context.now.locals.now) k result }
 {
     let cell = cell_at(context.nodes, k);
     let kind = tree::kind_of(cell);
@@ -186,9 +186,9 @@ fn decided(kind: u8, p: Option<bool>) -> bool
 }
 
 // Whether the condition at k holds.
-pub fn holds(context: Context, k: usize) -> Option<bool>
-    requires { Held (Settled.Cond context.nodes.now) (GoodCond (length context.locals.now)) k }
-    ensures { Worth (Settled.Cond context.entry.nodes.now) (truth context.entry.locals.now) k result }
+pub fn holds(context: &Context, k: usize) -> Option<bool>
+    requires { Held (Settled.Cond context.now.nodes.now) (GoodCond (length context.now.locals.now)) k }
+    ensures { Worth (Settled.Cond context.now.nodes.now) (truth context.now.locals.now) k result }
 {
     let cell = cell_at(context.nodes, k);
     let kind = tree::kind_of(cell);
@@ -238,8 +238,8 @@ fn scaled(n: u64, v: i64) -> Option<u64>
 }
 
 // What the scale at k comes to.
-fn scale_of(context: Context, k: usize) -> Option<u64>
-    ensures { Worth (Settled.Scale context.entry.nodes.now) (scale_answer context.entry.locals.now) k result }
+fn scale_of(context: &Context, k: usize) -> Option<u64>
+    ensures { Worth (Settled.Scale context.now.nodes.now) (scale_answer context.now.locals.now) k result }
 {
     let cell = cell_at(context.nodes, k);
     if tree::kind_of(cell) == NodeKind::NUMBER {
@@ -252,9 +252,9 @@ fn scale_of(context: Context, k: usize) -> Option<u64>
 }
 
 // What the rate at k comes to.
-pub fn rate_of(context: Context, k: usize) -> Option<u64>
-    requires { Held (Settled.Rate context.nodes.now) (GoodRate (length context.locals.now)) k }
-    ensures { Worth (Settled.Rate context.entry.nodes.now) (rate_answer context.entry.locals.now) k result }
+pub fn rate_of(context: &Context, k: usize) -> Option<u64>
+    requires { Held (Settled.Rate context.now.nodes.now) (GoodRate (length context.now.locals.now)) k }
+    ensures { Worth (Settled.Rate context.now.nodes.now) (rate_answer context.now.locals.now) k result }
 {
     let cell = cell_at(context.nodes, k);
     if tree::kind_of(cell) != NodeKind::SCALED {
@@ -272,9 +272,9 @@ pub enum Values {
 }
 
 // What the one or two expressions at k come to.
-pub fn values_of(context: Context, k: usize) -> Option<Values>
-    requires { Held (Settled.OneOrTwo context.nodes.now (Settled.Expr context.nodes.now)) (Every (GoodExpr (length context.locals.now))) k }
-    ensures { Worth (Settled.OneOrTwo context.entry.nodes.now (Settled.Expr context.entry.nodes.now)) (values_answer context.entry.locals.now) k result }
+pub fn values_of(context: &Context, k: usize) -> Option<Values>
+    requires { Held (Settled.OneOrTwo context.now.nodes.now (Settled.Expr context.now.nodes.now)) (Every (GoodExpr (length context.now.locals.now))) k }
+    ensures { Worth (Settled.OneOrTwo context.now.nodes.now (Settled.Expr context.now.nodes.now)) (values_answer context.now.locals.now) k result }
 {
     let cell = cell_at(context.nodes, k);
     if tree::kind_of(cell) != NodeKind::PAIR {
@@ -287,9 +287,9 @@ pub fn values_of(context: Context, k: usize) -> Option<Values>
 }
 
 // Whether all arguments at k have values.
-pub fn arguments_known(context: Context, k: usize) -> bool
-    requires { Held (Settled.Arguments context.nodes.now) (Every (GoodExpr (length context.locals.now))) k }
-    ensures { Worth (Settled.Arguments context.entry.nodes.now) (all_values context.entry.locals.now) k result }
+pub fn arguments_known(context: &Context, k: usize) -> bool
+    requires { Held (Settled.Arguments context.now.nodes.now) (Every (GoodExpr (length context.now.locals.now))) k }
+    ensures { Worth (Settled.Arguments context.now.nodes.now) (all_values context.now.locals.now) k result }
 {
     let cell = cell_at(context.nodes, k);
     if tree::kind_of(cell) != NodeKind::ARGUMENT {

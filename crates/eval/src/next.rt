@@ -48,9 +48,9 @@ pub fn continuation_of(nodes: &[u64], k: usize) -> Option<usize>
 }
 
 // Whether all arguments of the calls at k have values.
-pub fn arguments_given(context: Context, k: usize) -> bool
-    requires { (m : Resolved.Model) × Held (Settled.Parts context.nodes.now) (Every (GoodPart m (length context.locals.now))) k }
-    ensures { Worth (Settled.Parts context.entry.nodes.now) (arguments_given context.entry.locals.now) k result }
+pub fn arguments_given(context: &Context, k: usize) -> bool
+    requires { (m : Resolved.Model) × Held (Settled.Parts context.now.nodes.now) (Every (GoodPart m (length context.now.locals.now))) k }
+    ensures { Worth (Settled.Parts context.now.nodes.now) (arguments_given context.now.locals.now) k result }
 {
     let cell = crate::cell_at(context.nodes, k);
     let kind = tree::kind_of(cell);
@@ -133,9 +133,9 @@ fn numbers_of(sum: usize, locals: &[i64], definition: usize) -> [i64; Row::WIDTH
 
 // Writes the values of the arguments at k from place `at` on. `store::start::put_wholes` walks alike: one function would have two sorts of lists in its contract,
 // told apart by the kind. Values and place stay two: a struct of them would serve this one function, and its one caller begins at 0.
-fn put_arguments(context: Context, k: usize, values: &mut [i64], at: usize)
-    requires { Become.Room context.nodes.now (length context.locals.now) k (length values.old) at }
-    ensures { (es : List Resolved.Expr) → Settled.Arguments context.entry.nodes.now es k → values.new ≡ sets values.old at (Become.arguments context.entry.locals.now es) }
+fn put_arguments(context: &Context, k: usize, values: &mut [i64], at: usize)
+    requires { Become.Room context.now.nodes.now (length context.now.locals.now) k (length values.old) at }
+    ensures { (es : List Resolved.Expr) → Settled.Arguments context.now.nodes.now es k → values.new ≡ sets values.old at (Become.arguments context.now.locals.now es) }
 {
     let cell = crate::cell_at(context.nodes, k);
     if tree::kind_of(cell) != NodeKind::ARGUMENT {
@@ -196,7 +196,7 @@ impl Rows<'_> {
             nodes: tables.nodes,
             locals,
         };
-        put_arguments(context, k - 1, &mut values, 0);
+        put_arguments(&context, k - 1, &mut values, 0);
         let given = &values[..count];
         self.put_sums(tables, body, given);
     }

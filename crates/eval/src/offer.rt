@@ -111,9 +111,9 @@ fn listed_values(v: Values) -> Listed
 }
 
 // The set at k, if all its ends have values.
-fn set_of(context: Context, k: usize) -> Option<OfferSet>
-    requires { Held (Settled.Set context.nodes.now) (GoodSet (length context.locals.now)) k }
-    ensures { Shown.SetShown context.entry.nodes.now context.entry.locals.now k result }
+fn set_of(context: &Context, k: usize) -> Option<OfferSet>
+    requires { Held (Settled.Set context.now.nodes.now) (GoodSet (length context.now.locals.now)) k }
+    ensures { Shown.SetShown context.now.nodes.now context.now.locals.now k result }
 {
     let cell = crate::cell_at(context.nodes, k);
     let kind = tree::kind_of(cell);
@@ -130,9 +130,9 @@ fn set_of(context: Context, k: usize) -> Option<OfferSet>
 }
 
 // The one or two sets at k.
-fn listed_sets(context: Context, k: usize) -> Option<Listed>
-    requires { Held (Settled.OneOrTwo context.nodes.now (Settled.Set context.nodes.now)) (Every (GoodSet (length context.locals.now))) k }
-    ensures { Shown.SetsListed context.entry.nodes.now context.entry.locals.now k result }
+fn listed_sets(context: &Context, k: usize) -> Option<Listed>
+    requires { Held (Settled.OneOrTwo context.now.nodes.now (Settled.Set context.now.nodes.now)) (Every (GoodSet (length context.now.locals.now))) k }
+    ensures { Shown.SetsListed context.now.nodes.now context.now.locals.now k result }
 {
     let cell = crate::cell_at(context.nodes, k);
     if tree::kind_of(cell) != NodeKind::PAIR {
@@ -169,9 +169,9 @@ fn carries(kind: u8) -> bool
 }
 
 // The action at k with its rate, if its parts have values: launch, kill and send have values, a receive and a check sets.
-fn action_offer(context: Context, k: usize, rate: u64) -> Option<Offer>
-    requires { (m : Resolved.Model) × Held (Settled.Action context.nodes.now) (GoodAction m (length context.locals.now)) k }
-    ensures { Shown.ActionShown context.entry.nodes.now context.entry.locals.now rate k result }
+fn action_offer(context: &Context, k: usize, rate: u64) -> Option<Offer>
+    requires { (m : Resolved.Model) × Held (Settled.Action context.now.nodes.now) (GoodAction m (length context.now.locals.now)) k }
+    ensures { Shown.ActionShown context.now.nodes.now context.now.locals.now rate k result }
 {
     let cell = crate::cell_at(context.nodes, k);
     let kind = tree::kind_of(cell);
@@ -209,9 +209,9 @@ fn rate_root(cell: u64, k: usize) -> usize
 }
 
 // A branch behind its gate, if it has one: the rate first.
-fn prefix_offer(context: Context, k: usize) -> Option<Offer>
-    requires { Shown.Prefix context.nodes.now (length context.locals.now) k }
-    ensures { Shown.PrefixShown context.entry.nodes.now context.entry.locals.now k result }
+fn prefix_offer(context: &Context, k: usize) -> Option<Offer>
+    requires { Shown.Prefix context.now.nodes.now (length context.now.locals.now) k }
+    ensures { Shown.PrefixShown context.now.nodes.now context.now.locals.now k result }
 {
     let cell = crate::cell_at(context.nodes, k);
     let rate = crate::rate_of(context, rate_root(cell, k))?;
@@ -219,9 +219,9 @@ fn prefix_offer(context: Context, k: usize) -> Option<Offer>
 }
 
 // What the branch at k offers, if its parts have values; nothing behind a false gate.
-pub fn offer_of(context: Context, k: usize) -> Option<Option<Offer>>
-    requires { (m : Resolved.Model) × Held (Settled.Branch context.nodes.now) (GoodBranch m (length context.locals.now)) k }
-    ensures { (b : Resolved.Branch) → Settled.Branch context.entry.nodes.now b k → Shown.ShowsOffer context.entry.nodes.now context.entry.locals.now (eval_branch context.entry.locals.now b) result }
+pub fn offer_of(context: &Context, k: usize) -> Option<Option<Offer>>
+    requires { (m : Resolved.Model) × Held (Settled.Branch context.now.nodes.now) (GoodBranch m (length context.now.locals.now)) k }
+    ensures { (b : Resolved.Branch) → Settled.Branch context.now.nodes.now b k → Shown.ShowsOffer context.now.nodes.now context.now.locals.now (eval_branch context.now.locals.now b) result }
 {
     let cell = crate::cell_at(context.nodes, k);
     if tree::kind_of(cell) != NodeKind::GATE {
@@ -237,9 +237,9 @@ pub fn offer_of(context: Context, k: usize) -> Option<Option<Offer>>
 }
 
 // Whether v is in a set of an offer: in a range by two comparisons, as the definition has them.
-pub fn in_offer_set(context: Context, set: OfferSet, v: i64) -> bool
-    requires { (x : Set) × Shown.ShowsSet context.nodes.now context.locals.now set x }
-    ensures { (x : Set) → Shown.ShowsSet context.entry.nodes.now context.entry.locals.now set x → result ≡ within x v }
+pub fn in_offer_set(context: &Context, set: OfferSet, v: i64) -> bool
+    requires { (x : Set) × Shown.ShowsSet context.now.nodes.now context.now.locals.now set x }
+    ensures { (x : Set) → Shown.ShowsSet context.now.nodes.now context.now.locals.now set x → result ≡ within x v }
 {
     match set {
         OfferSet::Range(low, high) => low <= v && v <= high,

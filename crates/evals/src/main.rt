@@ -46,7 +46,7 @@ fn quotient(x: i64, y: i64) -> Option<i64>
         nodes: &nodes,
         locals: &[0],
     };
-    eval::eval_node(context, 2)
+    eval::eval_node(&context, 2)
 }
 
 // Whether v is in x..y.
@@ -58,7 +58,7 @@ fn in_range(x: i64, y: i64, v: i64) -> bool
         nodes: &nodes,
         locals: &[0],
     };
-    eval::in_set(context, 2, v)
+    eval::in_set(&context, 2, v)
 }
 
 // Whether v is in x..y\z.
@@ -72,7 +72,7 @@ fn in_rest(x: i64, y: i64, z: i64, v: i64) -> bool
         nodes: &nodes,
         locals: &[0],
     };
-    eval::in_set(context, 4, v)
+    eval::in_set(&context, 4, v)
 }
 
 // The kind of what [i>0] -> {c![y/i],1} offers; 0 and no Option, as the line prints it.
@@ -96,7 +96,7 @@ fn gated(i: i64, y: i64) -> u8
         nodes: &nodes,
         locals: &[i, y],
     };
-    match offer::offer_of(context, 10) {
+    match offer::offer_of(&context, 10) {
         Some(Some(o)) => o.kind,
         _ => 0,
     }
@@ -111,7 +111,7 @@ fn rate(n: u64) -> Option<u64>
         nodes: &nodes,
         locals: &[0],
     };
-    eval::rate_of(context, 0)
+    eval::rate_of(&context, 0)
 }
 
 // A line for each: its name and the number, or `none`. As in `values`, but of two types: a crate for both programs would hold this alone.

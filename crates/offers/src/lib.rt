@@ -230,15 +230,15 @@ impl<'a> Filling<'a> {
 
 // Puts the offer of the branch at k into a row, if it isn't hidden and there is one.
 fn collect_branch(
-    context: Context,
+    context: &Context,
     place: usize,
     branch: usize,
     k: usize,
     filling: &mut Filling,
 ) -> Result<(), Stop>
-    requires { ((m : Resolved.Model) × Held (Settled.Branch context.nodes.now) (GoodBranch m (length context.locals.now)) k) × (filling.old.count < row_limit) × (place < process_limit) × (branch < branch_limit) }
+    requires { ((m : Resolved.Model) × Held (Settled.Branch context.now.nodes.now) (GoodBranch m (length context.now.locals.now)) k) × (filling.old.count < row_limit) × (place < process_limit) × (branch < branch_limit) }
     ensures same { filling.new.rows.ghost_name ≡ filling.old.rows.ghost_name }
-    ensures collects { (b : Resolved.Branch) → Settled.Branch context.entry.nodes.now b k → Collect.CollectsOne context.entry.nodes.now context.entry.locals.now place branch filling.old.count filling.old.rows.now filling.new.count filling.new.rows.now (eval_branch context.entry.locals.now b) result }
+    ensures collects { (b : Resolved.Branch) → Settled.Branch context.now.nodes.now b k → Collect.CollectsOne context.now.nodes.now context.now.locals.now place branch filling.old.count filling.old.rows.now filling.new.count filling.new.rows.now (eval_branch context.now.locals.now b) result }
 {
     let shown = eval::offer::offer_of(context, k).ok_or(Stop::Missing(place, branch))?;
     let Some(o) = shown else {
@@ -249,15 +249,15 @@ fn collect_branch(
 
 // Puts the offers of the branches at k into rows, counted from `branch` on.
 fn collect_branches(
-    context: Context,
+    context: &Context,
     place: usize,
     branch: usize,
     k: usize,
     filling: &mut Filling,
 ) -> Result<(), Stop>
-    requires { (Collect.Branched context.nodes.now (length context.locals.now) branch k) × (place < process_limit) × (filling.old.count ≤ place * branch_limit + branch) }
+    requires { (Collect.Branched context.now.nodes.now (length context.now.locals.now) branch k) × (place < process_limit) × (filling.old.count ≤ place * branch_limit + branch) }
     ensures same { filling.new.rows.ghost_name ≡ filling.old.rows.ghost_name }
-    ensures collects { (bs : List Resolved.Branch) → Settled.Branches context.entry.nodes.now bs k → Collect.Collects context.entry.nodes.now context.entry.locals.now place branch filling.old.count filling.old.rows.now filling.new.count filling.new.rows.now bs result }
+    ensures collects { (bs : List Resolved.Branch) → Settled.Branches context.now.nodes.now bs k → Collect.Collects context.now.nodes.now context.now.locals.now place branch filling.old.count filling.old.rows.now filling.new.count filling.new.rows.now bs result }
 {
     let cell = eval::cell_at(context.nodes, k);
     let kind = tree::kind_of(cell);
@@ -299,7 +299,7 @@ fn collect_place(
         nodes: tables.nodes,
         locals,
     };
-    collect_branches(context, place, 0, root, filling)
+    collect_branches(&context, place, 0, root, filling)
 }
 
 // Puts the offers of all processes into rows.

@@ -215,7 +215,7 @@ fn enter(tables: Tables, state: &[i64], i: usize, j: usize, values: Option<Value
         nodes: tables.nodes,
         locals: own,
     };
-    let offer = eval::offer::offer_of(context, root).flatten();
+    let offer = eval::offer::offer_of(&context, root).flatten();
     let locals = locals_with(own, bound_by(offer, values));
     let next = eval::next::continuation_of(tables.nodes, root);
     Entered {
@@ -233,7 +233,7 @@ fn arguments_given(nodes: &[u64], locals: &[i64], next: Option<usize>) -> bool
     match next {
         Some(k) => {
             let context = Context { nodes, locals };
-            eval::next::arguments_given(context, k)
+            eval::next::arguments_given(&context, k)
         }
         None => true,
     }

@@ -9,8 +9,8 @@ use Rattle.eval.proofs.+arguments_known.Goals as goal
 pub eval_node-requires : goal.eval_node-requires
 eval_node-requires t c =
     let s = c in
-    let T = s.args.context.nodes.now in
-    let L = s.args.context.locals.now in
+    let T = s.args.context.now.nodes.now in
+    let L = s.args.context.now.locals.now in
     let k = s.args.k in
     let is = c.kind_of.ensures ∙ ap kind_of c.cell_at-cell.ensures in
     last-part T k c.kind_of.result is c.if-kind_of-ne-ARGUMENT.true (length L) s.requires
@@ -18,8 +18,8 @@ eval_node-requires t c =
 pub returns-then-kind_of-ne-ARGUMENT : goal.returns-then-kind_of-ne-ARGUMENT
 returns-then-kind_of-ne-ARGUMENT t c x h =
     let s = c in
-    let T = s.args.context.nodes.now in
-    let L = s.args.context.locals.now in
+    let T = s.args.context.now.nodes.now in
+    let L = s.args.context.now.locals.now in
     let k = s.args.k in
     let is = c.kind_of.ensures ∙ ap kind_of c.cell_at-cell.ensures in
     c.is_some.ensures ∙ known _ ∙ last-known T k c.kind_of.result is c.if-kind_of-ne-ARGUMENT.true L c.eval_node.result c.eval_node.ensures x h
@@ -27,8 +27,8 @@ returns-then-kind_of-ne-ARGUMENT t c x h =
 pub eval_node-requires-2 : goal.eval_node-requires-2
 eval_node-requires-2 t c =
     let s = c in
-    let T = s.args.context.nodes.now in
-    let L = s.args.context.locals.now in
+    let T = s.args.context.now.nodes.now in
+    let L = s.args.context.now.locals.now in
     let k = s.args.k in
     let is = c.kind_of.ensures ∙ ap kind_of c.cell_at-cell.ensures in
     let f = more_parts T k c.kind_of.result is c.if-kind_of-ne-ARGUMENT.false (length L) s.requires in
@@ -38,8 +38,8 @@ eval_node-requires-2 t c =
 pub overflow_sub-k : goal.overflow_sub-k
 overflow_sub-k t c =
     let s = c in
-    let T = s.args.context.nodes.now in
-    let L = s.args.context.locals.now in
+    let T = s.args.context.now.nodes.now in
+    let L = s.args.context.now.locals.now in
     let k = s.args.k in
     let is = c.kind_of.ensures ∙ ap kind_of c.cell_at-cell.ensures in
     let f = more_parts T k c.kind_of.result is c.if-kind_of-ne-ARGUMENT.false (length L) s.requires in
@@ -48,8 +48,8 @@ overflow_sub-k t c =
 pub arguments_known-requires : goal.arguments_known-requires
 arguments_known-requires t c =
     let s = c in
-    let T = s.args.context.nodes.now in
-    let L = s.args.context.locals.now in
+    let T = s.args.context.now.nodes.now in
+    let L = s.args.context.now.locals.now in
     let k = s.args.k in
     let is = c.kind_of.ensures ∙ ap kind_of c.cell_at-cell.ensures in
     let f = more_parts T k c.kind_of.result is c.if-kind_of-ne-ARGUMENT.false (length L) s.requires in
@@ -58,8 +58,8 @@ arguments_known-requires t c =
 pub returns-then-is_some : goal.returns-then-is_some
 returns-then-is_some t c =
     let s = c in
-    let T = s.args.context.nodes.now in
-    let L = s.args.context.locals.now in
+    let T = s.args.context.now.nodes.now in
+    let L = s.args.context.now.locals.now in
     let k = s.args.k in
     let is = c.kind_of.ensures ∙ ap kind_of c.cell_at-cell.ensures in
     let e = c.left_of.ensures ∙ ap left_of c.cell_at-cell.ensures in
@@ -68,8 +68,8 @@ returns-then-is_some t c =
 pub returns-else-is_some : goal.returns-else-is_some
 returns-else-is_some t c x h =
     let s = c in
-    let T = s.args.context.nodes.now in
-    let L = s.args.context.locals.now in
+    let T = s.args.context.now.nodes.now in
+    let L = s.args.context.now.locals.now in
     let k = s.args.k in
     let is = c.kind_of.ensures ∙ ap kind_of c.cell_at-cell.ensures in
     let e = c.left_of.ensures ∙ ap left_of c.cell_at-cell.ensures in

@@ -9,8 +9,8 @@ use Rattle.eval.proofs.+ends_known.Goals as goal
 pub eval_node-requires : goal.eval_node-requires
 eval_node-requires t c =
     let s = c in
-    let T = s.args.context.nodes.now in
-    let L = s.args.context.locals.now in
+    let T = s.args.context.now.nodes.now in
+    let L = s.args.context.now.locals.now in
     let k = s.args.k in
     let is = c.kind_of-kind.ensures ∙ ap kind_of c.cell_at-cell.ensures in
     single-part T k c.kind_of-kind.result is (length L) c.if-kind-lt-RANGE.true s.requires
@@ -18,8 +18,8 @@ eval_node-requires t c =
 pub returns-then-kind-lt-RANGE : goal.returns-then-kind-lt-RANGE
 returns-then-kind-lt-RANGE t c x h =
     let s = c in
-    let T = s.args.context.nodes.now in
-    let L = s.args.context.locals.now in
+    let T = s.args.context.now.nodes.now in
+    let L = s.args.context.now.locals.now in
     let k = s.args.k in
     let is = c.kind_of-kind.ensures ∙ ap kind_of c.cell_at-cell.ensures in
     c.is_some.ensures ∙ known _ ∙ single-ends T k c.kind_of-kind.result is L c.eval_node.result c.if-kind-lt-RANGE.true c.eval_node.ensures x h
@@ -27,8 +27,8 @@ returns-then-kind-lt-RANGE t c x h =
 pub eval_node-requires-then-kind-eq-RANGE : goal.eval_node-requires-then-kind-eq-RANGE
 eval_node-requires-then-kind-eq-RANGE t c =
     let s = c in
-    let T = s.args.context.nodes.now in
-    let L = s.args.context.locals.now in
+    let T = s.args.context.now.nodes.now in
+    let L = s.args.context.now.locals.now in
     let k = s.args.k in
     let is = c.kind_of-kind.ensures ∙ ap kind_of c.cell_at-cell.ensures in
     let f = range-parts T k c.kind_of-kind.result is (length L) c.if-kind-eq-RANGE.true s.requires in
@@ -38,8 +38,8 @@ eval_node-requires-then-kind-eq-RANGE t c =
 pub overflow_sub-k : goal.overflow_sub-k
 overflow_sub-k t c =
     let s = c in
-    let T = s.args.context.nodes.now in
-    let L = s.args.context.locals.now in
+    let T = s.args.context.now.nodes.now in
+    let L = s.args.context.now.locals.now in
     let k = s.args.k in
     let is = c.kind_of-kind.ensures ∙ ap kind_of c.cell_at-cell.ensures in
     let f = range-parts T k c.kind_of-kind.result is (length L) c.if-kind-eq-RANGE.true s.requires in
@@ -48,8 +48,8 @@ overflow_sub-k t c =
 pub eval_node-requires-then-is_some : goal.eval_node-requires-then-is_some
 eval_node-requires-then-is_some t c =
     let s = c in
-    let T = s.args.context.nodes.now in
-    let L = s.args.context.locals.now in
+    let T = s.args.context.now.nodes.now in
+    let L = s.args.context.now.locals.now in
     let k = s.args.k in
     let is = c.kind_of-kind.ensures ∙ ap kind_of c.cell_at-cell.ensures in
     let f = range-parts T k c.kind_of-kind.result is (length L) c.if-kind-eq-RANGE.true s.requires in
@@ -58,8 +58,8 @@ eval_node-requires-then-is_some t c =
 pub returns-then-is_some : goal.returns-then-is_some
 returns-then-is_some t c x h =
     let s = c in
-    let T = s.args.context.nodes.now in
-    let L = s.args.context.locals.now in
+    let T = s.args.context.now.nodes.now in
+    let L = s.args.context.now.locals.now in
     let k = s.args.k in
     let is = c.kind_of-kind.ensures ∙ ap kind_of c.cell_at-cell.ensures in
     let e = c.left_of-i.ensures ∙ ap left_of c.cell_at-cell.ensures in
@@ -68,8 +68,8 @@ returns-then-is_some t c x h =
 pub returns-else-is_some : goal.returns-else-is_some
 returns-else-is_some t c x h =
     let s = c in
-    let T = s.args.context.nodes.now in
-    let L = s.args.context.locals.now in
+    let T = s.args.context.now.nodes.now in
+    let L = s.args.context.now.locals.now in
     let k = s.args.k in
     let is = c.kind_of-kind.ensures ∙ ap kind_of c.cell_at-cell.ensures in
     let e = c.left_of-i.ensures ∙ ap left_of c.cell_at-cell.ensures in
@@ -78,8 +78,8 @@ returns-else-is_some t c x h =
 pub ends_known-requires : goal.ends_known-requires
 ends_known-requires t c =
     let s = c in
-    let T = s.args.context.nodes.now in
-    let L = s.args.context.locals.now in
+    let T = s.args.context.now.nodes.now in
+    let L = s.args.context.now.locals.now in
     let k = s.args.k in
     let is = c.kind_of-kind.ensures ∙ ap kind_of c.cell_at-cell.ensures in
     let f = joined-parts T k c.kind_of-kind.result is c.if-kind-lt-RANGE.false c.if-kind-eq-RANGE.false (length L) s.requires in
@@ -89,8 +89,8 @@ ends_known-requires t c =
 pub overflow_sub-k-then-ends_known : goal.overflow_sub-k-then-ends_known
 overflow_sub-k-then-ends_known t c =
     let s = c in
-    let T = s.args.context.nodes.now in
-    let L = s.args.context.locals.now in
+    let T = s.args.context.now.nodes.now in
+    let L = s.args.context.now.locals.now in
     let k = s.args.k in
     let is = c.kind_of-kind.ensures ∙ ap kind_of c.cell_at-cell.ensures in
     let f = joined-parts T k c.kind_of-kind.result is c.if-kind-lt-RANGE.false c.if-kind-eq-RANGE.false (length L) s.requires in
@@ -99,8 +99,8 @@ overflow_sub-k-then-ends_known t c =
 pub ends_known-requires-then-ends_known : goal.ends_known-requires-then-ends_known
 ends_known-requires-then-ends_known t c =
     let s = c in
-    let T = s.args.context.nodes.now in
-    let L = s.args.context.locals.now in
+    let T = s.args.context.now.nodes.now in
+    let L = s.args.context.now.locals.now in
     let k = s.args.k in
     let is = c.kind_of-kind.ensures ∙ ap kind_of c.cell_at-cell.ensures in
     let f = joined-parts T k c.kind_of-kind.result is c.if-kind-lt-RANGE.false c.if-kind-eq-RANGE.false (length L) s.requires in
@@ -109,8 +109,8 @@ ends_known-requires-then-ends_known t c =
 pub returns-then-ends_known : goal.returns-then-ends_known
 returns-then-ends_known t c =
     let s = c in
-    let T = s.args.context.nodes.now in
-    let L = s.args.context.locals.now in
+    let T = s.args.context.now.nodes.now in
+    let L = s.args.context.now.locals.now in
     let k = s.args.k in
     let is = c.kind_of-kind.ensures ∙ ap kind_of c.cell_at-cell.ensures in
     let e = c.left_of-i.ensures ∙ ap left_of c.cell_at-cell.ensures in
@@ -119,8 +119,8 @@ returns-then-ends_known t c =
 pub returns-else-ends_known : goal.returns-else-ends_known
 returns-else-ends_known t c =
     let s = c in
-    let T = s.args.context.nodes.now in
-    let L = s.args.context.locals.now in
+    let T = s.args.context.now.nodes.now in
+    let L = s.args.context.now.locals.now in
     let k = s.args.k in
     let is = c.kind_of-kind.ensures ∙ ap kind_of c.cell_at-cell.ensures in
     let e = c.left_of-i.ensures ∙ ap left_of c.cell_at-cell.ensures in

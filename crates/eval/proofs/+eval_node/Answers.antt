@@ -18,8 +18,8 @@ use Rattle.eval.proofs.+eval_node.Goals as goal
 pub returns-then-kind-eq-LITERAL : goal.returns-then-kind-eq-LITERAL
 returns-then-kind-eq-LITERAL t c e h =
     let s = c in
-    let T = s.args.context.nodes.now in
-    let L = s.args.context.locals.now in
+    let T = s.args.context.now.nodes.now in
+    let L = s.args.context.now.locals.now in
     let k = s.args.k in
     let is = c.kind_of-kind.ensures ∙ ap kind_of c.cell_at-cell.ensures in
     rw (back c.number_of.result c.number_of.type_inv) (ap Some (c.number_of.ensures ∙ ap number_of c.cell_at-cell.ensures) ∙ literal-is T k c.kind_of-kind.result is L c.if-kind-eq-LITERAL.true e h)
@@ -27,8 +27,8 @@ returns-then-kind-eq-LITERAL t c e h =
 pub returns-then-kind-eq-NAMED : goal.returns-then-kind-eq-NAMED
 returns-then-kind-eq-NAMED t c e h =
     let s = c in
-    let T = s.args.context.nodes.now in
-    let L = s.args.context.locals.now in
+    let T = s.args.context.now.nodes.now in
+    let L = s.args.context.now.locals.now in
     let k = s.args.k in
     let is = c.kind_of-kind.ensures ∙ ap kind_of c.cell_at-cell.ensures in
     let i = c.token_of.ensures ∙ ap token_of c.cell_at-cell.ensures in
@@ -37,8 +37,8 @@ returns-then-kind-eq-NAMED t c e h =
 pub overflow_sub-k : goal.overflow_sub-k
 overflow_sub-k t c =
     let s = c in
-    let T = s.args.context.nodes.now in
-    let L = s.args.context.locals.now in
+    let T = s.args.context.now.nodes.now in
+    let L = s.args.context.now.locals.now in
     let k = s.args.k in
     let is = c.kind_of-kind.ensures ∙ ap kind_of c.cell_at-cell.ensures in
     let f = absolute-part T k c.kind_of-kind.result is (length L) c.if-kind-eq-ABSOLUTE.true s.requires in
@@ -47,8 +47,8 @@ overflow_sub-k t c =
 pub eval_node-requires : goal.eval_node-requires
 eval_node-requires t c =
     let s = c in
-    let T = s.args.context.nodes.now in
-    let L = s.args.context.locals.now in
+    let T = s.args.context.now.nodes.now in
+    let L = s.args.context.now.locals.now in
     let k = s.args.k in
     let is = c.kind_of-kind.ensures ∙ ap kind_of c.cell_at-cell.ensures in
     let f = absolute-part T k c.kind_of-kind.result is (length L) c.if-kind-eq-ABSOLUTE.true s.requires in
@@ -56,39 +56,39 @@ eval_node-requires t c =
 
 pub abs_value-requires : goal.abs_value-requires
 abs_value-requires t c =
-    let T = c.args.context.nodes.now in
-    let L = c.args.context.locals.now in
+    let T = c.args.context.now.nodes.now in
+    let L = c.args.context.now.locals.now in
     let k = c.args.k in
     let is = c.kind_of-kind.ensures ∙ ap kind_of c.cell_at-cell.ensures in
     let f = absolute-part T k c.kind_of-kind.result is (length L) c.if-kind-eq-ABSOLUTE.true c.requires in
-    let g = subst Sound c.in_ok-x.was (worth-sound T L (length L) (k - 1) c.eval_node.result c.args.context.in_range f.1 c.eval_node.ensures) in
+    let g = subst Sound c.in_ok-x.was (worth-sound T L (length L) (k - 1) c.eval_node.result c.args.context.now.in_range f.1 c.eval_node.ensures) in
     simp (to_z-of_z (in-fits c.in_ok-x.x g)) g
 
 pub returns-then-kind-eq-ABSOLUTE : goal.returns-then-kind-eq-ABSOLUTE
 unfolding with_value
 returns-then-kind-eq-ABSOLUTE t c e h =
-    let T = c.args.context.nodes.now in
-    let L = c.args.context.locals.now in
+    let T = c.args.context.now.nodes.now in
+    let L = c.args.context.now.locals.now in
     let k = c.args.k in
     let is = c.kind_of-kind.ensures ∙ ap kind_of c.cell_at-cell.ensures in
     let f = absolute-part T k c.kind_of-kind.result is (length L) c.if-kind-eq-ABSOLUTE.true c.requires in
-    let g = subst Sound c.in_ok-x.was (worth-sound T L (length L) (k - 1) c.eval_node.result c.args.context.in_range f.1 c.eval_node.ensures) in
+    let g = subst Sound c.in_ok-x.was (worth-sound T L (length L) (k - 1) c.eval_node.result c.args.context.now.in_range f.1 c.eval_node.ensures) in
     (simp (to_z-of_z (in-fits c.in_ok-x.x g)) at c.abs_value.ensures)
     ∙ (rw c.in_ok-x.was at (absolute-is T k c.kind_of-kind.result is L c.eval_node.result c.if-kind-eq-ABSOLUTE.true c.eval_node.ensures e h))
 
 pub returns-in_err-x : goal.returns-in_err-x
 unfolding with_value
 returns-in_err-x t c e h =
-    let T = c.args.context.nodes.now in
-    let L = c.args.context.locals.now in
+    let T = c.args.context.now.nodes.now in
+    let L = c.args.context.now.locals.now in
     let k = c.args.k in
     let is = c.kind_of-kind.ensures ∙ ap kind_of c.cell_at-cell.ensures in
     c.from_residual.ensures ∙ (rw c.in_err-x.was at (absolute-is T k c.kind_of-kind.result is L c.eval_node.result c.if-kind-eq-ABSOLUTE.true c.eval_node.ensures e h))
 
 pub eval_node-requires-2 : goal.eval_node-requires-2
 eval_node-requires-2 t c =
-    let T = c.args.context.nodes.now in
-    let L = c.args.context.locals.now in
+    let T = c.args.context.now.nodes.now in
+    let L = c.args.context.now.locals.now in
     let k = c.args.k in
     let is = c.kind_of-kind.ensures ∙ ap kind_of c.cell_at-cell.ensures in
     let f = binary-parts T k c.kind_of-kind.result is c.if-kind-eq-LITERAL.false c.if-kind-eq-NAMED.false c.if-kind-eq-ABSOLUTE.false (length L) c.requires in
@@ -97,8 +97,8 @@ eval_node-requires-2 t c =
 
 pub returns-in_err-x-2 : goal.returns-in_err-x-2
 returns-in_err-x-2 t c o h =
-    let T = c.args.context.nodes.now in
-    let L = c.args.context.locals.now in
+    let T = c.args.context.now.nodes.now in
+    let L = c.args.context.now.locals.now in
     let k = c.args.k in
     let is = c.kind_of-kind.ensures ∙ ap kind_of c.cell_at-cell.ensures in
     let e = c.left_of.ensures ∙ ap left_of c.cell_at-cell.ensures in
@@ -106,8 +106,8 @@ returns-in_err-x-2 t c o h =
 
 pub overflow_sub-k-2 : goal.overflow_sub-k-2
 overflow_sub-k-2 t c =
-    let T = c.args.context.nodes.now in
-    let L = c.args.context.locals.now in
+    let T = c.args.context.now.nodes.now in
+    let L = c.args.context.now.locals.now in
     let k = c.args.k in
     let is = c.kind_of-kind.ensures ∙ ap kind_of c.cell_at-cell.ensures in
     let f = binary-parts T k c.kind_of-kind.result is c.if-kind-eq-LITERAL.false c.if-kind-eq-NAMED.false c.if-kind-eq-ABSOLUTE.false (length L) c.requires in
@@ -115,8 +115,8 @@ overflow_sub-k-2 t c =
 
 pub eval_node-requires-3 : goal.eval_node-requires-3
 eval_node-requires-3 t c =
-    let T = c.args.context.nodes.now in
-    let L = c.args.context.locals.now in
+    let T = c.args.context.now.nodes.now in
+    let L = c.args.context.now.locals.now in
     let k = c.args.k in
     let is = c.kind_of-kind.ensures ∙ ap kind_of c.cell_at-cell.ensures in
     let f = binary-parts T k c.kind_of-kind.result is c.if-kind-eq-LITERAL.false c.if-kind-eq-NAMED.false c.if-kind-eq-ABSOLUTE.false (length L) c.requires in
@@ -124,21 +124,21 @@ eval_node-requires-3 t c =
 
 pub apply-requires : goal.apply-requires
 apply-requires t c =
-    let T = c.args.context.nodes.now in
-    let L = c.args.context.locals.now in
+    let T = c.args.context.now.nodes.now in
+    let L = c.args.context.now.locals.now in
     let k = c.args.k in
     let is = c.kind_of-kind.ensures ∙ ap kind_of c.cell_at-cell.ensures in
     let f = binary-parts T k c.kind_of-kind.result is c.if-kind-eq-LITERAL.false c.if-kind-eq-NAMED.false c.if-kind-eq-ABSOLUTE.false (length L) c.requires in
     let e = c.left_of.ensures ∙ ap left_of c.cell_at-cell.ensures in
-    let g = subst Sound c.in_ok-x-2.was (worth-sound T L (length L) c.left_of.result c.eval_node-2.result c.args.context.in_range (rw e f.2) c.eval_node-2.ensures) in
-    let h = subst Sound c.in_ok-y.was (worth-sound T L (length L) (k - 1) c.eval_node-3.result c.args.context.in_range f.3 c.eval_node-3.ensures) in
+    let g = subst Sound c.in_ok-x-2.was (worth-sound T L (length L) c.left_of.result c.eval_node-2.result c.args.context.now.in_range (rw e f.2) c.eval_node-2.ensures) in
+    let h = subst Sound c.in_ok-y.was (worth-sound T L (length L) (k - 1) c.eval_node-3.result c.args.context.now.in_range f.3 c.eval_node-3.ensures) in
     simp (to_z-of_z (in-fits c.in_ok-x-2.x g), to_z-of_z (in-fits c.in_ok-y.y h)) (g, h)
 
 pub returns-in_err-y : goal.returns-in_err-y
 unfolding with_value
 returns-in_err-y t c =
-    let T = c.args.context.nodes.now in
-    let L = c.args.context.locals.now in
+    let T = c.args.context.now.nodes.now in
+    let L = c.args.context.now.locals.now in
     let k = c.args.k in
     let is = c.kind_of-kind.ensures ∙ ap kind_of c.cell_at-cell.ensures in
     let e = c.left_of.ensures ∙ ap left_of c.cell_at-cell.ensures in
@@ -148,13 +148,13 @@ returns-in_err-y t c =
 pub returns : goal.returns
 unfolding with_value
 returns t c =
-    let T = c.args.context.nodes.now in
-    let L = c.args.context.locals.now in
+    let T = c.args.context.now.nodes.now in
+    let L = c.args.context.now.locals.now in
     let k = c.args.k in
     let is = c.kind_of-kind.ensures ∙ ap kind_of c.cell_at-cell.ensures in
     let f = binary-parts T k c.kind_of-kind.result is c.if-kind-eq-LITERAL.false c.if-kind-eq-NAMED.false c.if-kind-eq-ABSOLUTE.false (length L) c.requires in
     let e = c.left_of.ensures ∙ ap left_of c.cell_at-cell.ensures in
-    let g = subst Sound c.in_ok-x-2.was (worth-sound T L (length L) c.left_of.result c.eval_node-2.result c.args.context.in_range (rw e f.2) c.eval_node-2.ensures) in
-    let h = subst Sound c.in_ok-y.was (worth-sound T L (length L) (k - 1) c.eval_node-3.result c.args.context.in_range f.3 c.eval_node-3.ensures) in
+    let g = subst Sound c.in_ok-x-2.was (worth-sound T L (length L) c.left_of.result c.eval_node-2.result c.args.context.now.in_range (rw e f.2) c.eval_node-2.ensures) in
+    let h = subst Sound c.in_ok-y.was (worth-sound T L (length L) (k - 1) c.eval_node-3.result c.args.context.now.in_range f.3 c.eval_node-3.ensures) in
     binary-is T k c.kind_of-kind.result is c.if-kind-eq-LITERAL.false c.if-kind-eq-NAMED.false c.if-kind-eq-ABSOLUTE.false L c.eval_node-2.result c.eval_node-3.result c.apply.result (rw e at c.eval_node-2.ensures) c.eval_node-3.ensures
     (λ o q. rw (c.in_ok-x-2.was, c.in_ok-y.was) (simp (to_z-of_z (in-fits c.in_ok-x-2.x g), to_z-of_z (in-fits c.in_ok-y.y h)) at (c.apply.ensures o q)))

@@ -12,8 +12,8 @@ use Rattle.eval.proofs.+holds.Goals as goal
 
 pub eval_node-requires : goal.eval_node-requires
 eval_node-requires t c =
-    let T = c.args.context.nodes.now in
-    let L = c.args.context.locals.now in
+    let T = c.args.context.now.nodes.now in
+    let L = c.args.context.now.locals.now in
     let k = c.args.k in
     let is = c.kind_of-kind.ensures ∙ ap kind_of c.cell_at-cell.ensures in
     let f = compare-parts T k c.kind_of-kind.result is (length L) c.if-kind-lt-BOTH.true c.requires in
@@ -22,8 +22,8 @@ eval_node-requires t c =
 
 pub returns-in_err-x : goal.returns-in_err-x
 returns-in_err-x t c d h =
-    let T = c.args.context.nodes.now in
-    let L = c.args.context.locals.now in
+    let T = c.args.context.now.nodes.now in
+    let L = c.args.context.now.locals.now in
     let k = c.args.k in
     let is = c.kind_of-kind.ensures ∙ ap kind_of c.cell_at-cell.ensures in
     let e = c.left_of-i.ensures ∙ ap left_of c.cell_at-cell.ensures in
@@ -31,8 +31,8 @@ returns-in_err-x t c d h =
 
 pub overflow_sub-k : goal.overflow_sub-k
 overflow_sub-k t c =
-    let T = c.args.context.nodes.now in
-    let L = c.args.context.locals.now in
+    let T = c.args.context.now.nodes.now in
+    let L = c.args.context.now.locals.now in
     let k = c.args.k in
     let is = c.kind_of-kind.ensures ∙ ap kind_of c.cell_at-cell.ensures in
     let f = compare-parts T k c.kind_of-kind.result is (length L) c.if-kind-lt-BOTH.true c.requires in
@@ -40,8 +40,8 @@ overflow_sub-k t c =
 
 pub eval_node-requires-then-kind-lt-BOTH : goal.eval_node-requires-then-kind-lt-BOTH
 eval_node-requires-then-kind-lt-BOTH t c =
-    let T = c.args.context.nodes.now in
-    let L = c.args.context.locals.now in
+    let T = c.args.context.now.nodes.now in
+    let L = c.args.context.now.locals.now in
     let k = c.args.k in
     let is = c.kind_of-kind.ensures ∙ ap kind_of c.cell_at-cell.ensures in
     let f = compare-parts T k c.kind_of-kind.result is (length L) c.if-kind-lt-BOTH.true c.requires in
@@ -50,8 +50,8 @@ eval_node-requires-then-kind-lt-BOTH t c =
 pub returns-in_err-y : goal.returns-in_err-y
 unfolding valued truth_of
 returns-in_err-y t c =
-    let T = c.args.context.nodes.now in
-    let L = c.args.context.locals.now in
+    let T = c.args.context.now.nodes.now in
+    let L = c.args.context.now.locals.now in
     let k = c.args.k in
     let is = c.kind_of-kind.ensures ∙ ap kind_of c.cell_at-cell.ensures in
     let e = c.left_of-i.ensures ∙ ap left_of c.cell_at-cell.ensures in
@@ -61,8 +61,8 @@ returns-in_err-y t c =
 pub returns-then-kind-lt-BOTH : goal.returns-then-kind-lt-BOTH
 unfolding valued truth_of
 returns-then-kind-lt-BOTH t c =
-    let T = c.args.context.nodes.now in
-    let L = c.args.context.locals.now in
+    let T = c.args.context.now.nodes.now in
+    let L = c.args.context.now.locals.now in
     let k = c.args.k in
     let is = c.kind_of-kind.ensures ∙ ap kind_of c.cell_at-cell.ensures in
     let e = c.left_of-i.ensures ∙ ap left_of c.cell_at-cell.ensures in
@@ -74,8 +74,8 @@ returns-then-kind-lt-BOTH t c =
 pub holds-p-requires : goal.holds-p-requires
 holds-p-requires t c =
     let s = c in
-    let T = s.args.context.nodes.now in
-    let L = s.args.context.locals.now in
+    let T = s.args.context.now.nodes.now in
+    let L = s.args.context.now.locals.now in
     let k = s.args.k in
     let is = c.kind_of-kind.ensures ∙ ap kind_of c.cell_at-cell.ensures in
     let f = cond-parts T k c.kind_of-kind.result is c.if-kind-lt-BOTH.false (length L) s.requires in
@@ -85,8 +85,8 @@ holds-p-requires t c =
 pub returns-then-decided : goal.returns-then-decided
 returns-then-decided t c =
     let s = c in
-    let T = s.args.context.nodes.now in
-    let L = s.args.context.locals.now in
+    let T = s.args.context.now.nodes.now in
+    let L = s.args.context.now.locals.now in
     let k = s.args.k in
     let is = c.kind_of-kind.ensures ∙ ap kind_of c.cell_at-cell.ensures in
     let e = c.left_of-i.ensures ∙ ap left_of c.cell_at-cell.ensures in
@@ -95,8 +95,8 @@ returns-then-decided t c =
 pub overflow_sub-k-2 : goal.overflow_sub-k-2
 overflow_sub-k-2 t c =
     let s = c in
-    let T = s.args.context.nodes.now in
-    let L = s.args.context.locals.now in
+    let T = s.args.context.now.nodes.now in
+    let L = s.args.context.now.locals.now in
     let k = s.args.k in
     let is = c.kind_of-kind.ensures ∙ ap kind_of c.cell_at-cell.ensures in
     let f = cond-parts T k c.kind_of-kind.result is c.if-kind-lt-BOTH.false (length L) s.requires in
@@ -105,8 +105,8 @@ overflow_sub-k-2 t c =
 pub holds-requires : goal.holds-requires
 holds-requires t c =
     let s = c in
-    let T = s.args.context.nodes.now in
-    let L = s.args.context.locals.now in
+    let T = s.args.context.now.nodes.now in
+    let L = s.args.context.now.locals.now in
     let k = s.args.k in
     let is = c.kind_of-kind.ensures ∙ ap kind_of c.cell_at-cell.ensures in
     let f = cond-parts T k c.kind_of-kind.result is c.if-kind-lt-BOTH.false (length L) s.requires in
@@ -115,8 +115,8 @@ holds-requires t c =
 pub returns : goal.returns
 returns t c =
     let s = c in
-    let T = s.args.context.nodes.now in
-    let L = s.args.context.locals.now in
+    let T = s.args.context.now.nodes.now in
+    let L = s.args.context.now.locals.now in
     let k = s.args.k in
     let is = c.kind_of-kind.ensures ∙ ap kind_of c.cell_at-cell.ensures in
     let e = c.left_of-i.ensures ∙ ap left_of c.cell_at-cell.ensures in

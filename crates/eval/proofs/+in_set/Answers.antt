@@ -13,16 +13,16 @@ use Rattle.eval.proofs.+in_set.Goals as goal
 
 pub eval_node-requires : goal.eval_node-requires
 eval_node-requires t c =
-    let T = c.args.context.nodes.now in
-    let L = c.args.context.locals.now in
+    let T = c.args.context.now.nodes.now in
+    let L = c.args.context.now.locals.now in
     let k = c.args.k in
     let is = c.kind_of-kind.ensures ∙ ap kind_of c.cell_at-cell.ensures in
     single-part T k c.kind_of-kind.result is (length L) c.if-kind-lt-RANGE.true c.requires
 
 pub returns-in_default : goal.returns-in_default
 returns-in_default t c =
-    let T = c.args.context.nodes.now in
-    let L = c.args.context.locals.now in
+    let T = c.args.context.now.nodes.now in
+    let L = c.args.context.now.locals.now in
     let k = c.args.k in
     let is = c.kind_of-kind.ensures ∙ ap kind_of c.cell_at-cell.ensures in
     let z = to_z-of_z c.ranges.v in
@@ -30,8 +30,8 @@ returns-in_default t c =
 
 pub returns-then-kind-lt-RANGE : goal.returns-then-kind-lt-RANGE
 returns-then-kind-lt-RANGE t c =
-    let T = c.args.context.nodes.now in
-    let L = c.args.context.locals.now in
+    let T = c.args.context.now.nodes.now in
+    let L = c.args.context.now.locals.now in
     let k = c.args.k in
     let is = c.kind_of-kind.ensures ∙ ap kind_of c.cell_at-cell.ensures in
     let z = to_z-of_z c.ranges.v in
@@ -41,8 +41,8 @@ returns-then-kind-lt-RANGE t c =
 
 pub eval_node-x-requires : goal.eval_node-x-requires
 eval_node-x-requires t c =
-    let T = c.args.context.nodes.now in
-    let L = c.args.context.locals.now in
+    let T = c.args.context.now.nodes.now in
+    let L = c.args.context.now.locals.now in
     let k = c.args.k in
     let is = c.kind_of-kind.ensures ∙ ap kind_of c.cell_at-cell.ensures in
     let f = range-parts T k c.kind_of-kind.result is (length L) c.if-kind-eq-RANGE.true c.requires in
@@ -51,8 +51,8 @@ eval_node-x-requires t c =
 
 pub overflow_sub-k : goal.overflow_sub-k
 overflow_sub-k t c =
-    let T = c.args.context.nodes.now in
-    let L = c.args.context.locals.now in
+    let T = c.args.context.now.nodes.now in
+    let L = c.args.context.now.locals.now in
     let k = c.args.k in
     let is = c.kind_of-kind.ensures ∙ ap kind_of c.cell_at-cell.ensures in
     let f = range-parts T k c.kind_of-kind.result is (length L) c.if-kind-eq-RANGE.true c.requires in
@@ -60,8 +60,8 @@ overflow_sub-k t c =
 
 pub eval_node-y-requires : goal.eval_node-y-requires
 eval_node-y-requires t c =
-    let T = c.args.context.nodes.now in
-    let L = c.args.context.locals.now in
+    let T = c.args.context.now.nodes.now in
+    let L = c.args.context.now.locals.now in
     let k = c.args.k in
     let is = c.kind_of-kind.ensures ∙ ap kind_of c.cell_at-cell.ensures in
     let f = range-parts T k c.kind_of-kind.result is (length L) c.if-kind-eq-RANGE.true c.requires in
@@ -69,8 +69,8 @@ eval_node-y-requires t c =
 
 pub returns-in_default-zip : goal.returns-in_default-zip
 returns-in_default-zip t c =
-    let T = c.args.context.nodes.now in
-    let L = c.args.context.locals.now in
+    let T = c.args.context.now.nodes.now in
+    let L = c.args.context.now.locals.now in
     let k = c.args.k in
     let is = c.kind_of-kind.ensures ∙ ap kind_of c.cell_at-cell.ensures in
     let e = c.left_of-i.ensures ∙ ap left_of c.cell_at-cell.ensures in
@@ -80,8 +80,8 @@ returns-in_default-zip t c =
 pub returns-then-a-v : goal.returns-then-a-v
 unfolding within
 returns-then-a-v t c =
-    let T = c.args.context.nodes.now in
-    let L = c.args.context.locals.now in
+    let T = c.args.context.now.nodes.now in
+    let L = c.args.context.now.locals.now in
     let k = c.args.k in
     let is = c.kind_of-kind.ensures ∙ ap kind_of c.cell_at-cell.ensures in
     let e = c.left_of-i.ensures ∙ ap left_of c.cell_at-cell.ensures in
@@ -96,8 +96,8 @@ returns-then-a-v t c =
 pub returns-else-a-v : goal.returns-else-a-v
 unfolding within
 returns-else-a-v t c =
-    let T = c.args.context.nodes.now in
-    let L = c.args.context.locals.now in
+    let T = c.args.context.now.nodes.now in
+    let L = c.args.context.now.locals.now in
     let k = c.args.k in
     let is = c.kind_of-kind.ensures ∙ ap kind_of c.cell_at-cell.ensures in
     let e = c.left_of-i.ensures ∙ ap left_of c.cell_at-cell.ensures in
@@ -111,8 +111,8 @@ returns-else-a-v t c =
 pub in_set-p-requires : goal.in_set-p-requires
 in_set-p-requires t c =
     let s = c in
-    let T = s.args.context.nodes.now in
-    let L = s.args.context.locals.now in
+    let T = s.args.context.now.nodes.now in
+    let L = s.args.context.now.locals.now in
     let k = s.args.k in
     let is = c.kind_of-kind.ensures ∙ ap kind_of c.cell_at-cell.ensures in
     let f = joined-parts T k c.kind_of-kind.result is c.if-kind-lt-RANGE.false c.if-kind-eq-RANGE.false (length L) s.requires in
@@ -122,8 +122,8 @@ in_set-p-requires t c =
 pub returns-then-settled : goal.returns-then-settled
 returns-then-settled t c =
     let s = c in
-    let T = s.args.context.nodes.now in
-    let L = s.args.context.locals.now in
+    let T = s.args.context.now.nodes.now in
+    let L = s.args.context.now.locals.now in
     let k = s.args.k in
     let is = c.kind_of-kind.ensures ∙ ap kind_of c.cell_at-cell.ensures in
     let z = to_z-of_z s.ranges.v in
@@ -133,8 +133,8 @@ returns-then-settled t c =
 pub overflow_sub-k-2 : goal.overflow_sub-k-2
 overflow_sub-k-2 t c =
     let s = c in
-    let T = s.args.context.nodes.now in
-    let L = s.args.context.locals.now in
+    let T = s.args.context.now.nodes.now in
+    let L = s.args.context.now.locals.now in
     let k = s.args.k in
     let is = c.kind_of-kind.ensures ∙ ap kind_of c.cell_at-cell.ensures in
     let f = joined-parts T k c.kind_of-kind.result is c.if-kind-lt-RANGE.false c.if-kind-eq-RANGE.false (length L) s.requires in
@@ -143,8 +143,8 @@ overflow_sub-k-2 t c =
 pub in_set-q-requires : goal.in_set-q-requires
 in_set-q-requires t c =
     let s = c in
-    let T = s.args.context.nodes.now in
-    let L = s.args.context.locals.now in
+    let T = s.args.context.now.nodes.now in
+    let L = s.args.context.now.locals.now in
     let k = s.args.k in
     let is = c.kind_of-kind.ensures ∙ ap kind_of c.cell_at-cell.ensures in
     let f = joined-parts T k c.kind_of-kind.result is c.if-kind-lt-RANGE.false c.if-kind-eq-RANGE.false (length L) s.requires in
@@ -153,8 +153,8 @@ in_set-q-requires t c =
 pub returns-then-kind-eq-WITHOUT : goal.returns-then-kind-eq-WITHOUT
 returns-then-kind-eq-WITHOUT t c =
     let s = c in
-    let T = s.args.context.nodes.now in
-    let L = s.args.context.locals.now in
+    let T = s.args.context.now.nodes.now in
+    let L = s.args.context.now.locals.now in
     let k = s.args.k in
     let is = c.kind_of-kind.ensures ∙ ap kind_of c.cell_at-cell.ensures in
     let z = to_z-of_z s.ranges.v in
@@ -164,8 +164,8 @@ returns-then-kind-eq-WITHOUT t c =
 pub returns : goal.returns
 returns t c =
     let s = c in
-    let T = s.args.context.nodes.now in
-    let L = s.args.context.locals.now in
+    let T = s.args.context.now.nodes.now in
+    let L = s.args.context.now.locals.now in
     let k = s.args.k in
     let is = c.kind_of-kind.ensures ∙ ap kind_of c.cell_at-cell.ensures in
     let z = to_z-of_z s.ranges.v in

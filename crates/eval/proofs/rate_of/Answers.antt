@@ -12,16 +12,16 @@ use Rattle.eval.proofs.rate_of.Goals as goal
 pub returns-then-kind_of-ne-SCALED : goal.returns-then-kind_of-ne-SCALED
 returns-then-kind_of-ne-SCALED c =
     let s = c in
-    let T = s.args.context.nodes.now in
-    let L = s.args.context.locals.now in
+    let T = s.args.context.now.nodes.now in
+    let L = s.args.context.now.locals.now in
     let k = s.args.k in
     let is = c.kind_of.ensures ∙ ap kind_of c.cell_at-cell.ensures in
     plain-rate T k c.kind_of.result is L c.scale_of.result c.if-kind_of-ne-SCALED.true c.scale_of.ensures
 
 pub returns-in_err-scale : goal.returns-in_err-scale
 returns-in_err-scale c r h =
-    let T = c.args.context.nodes.now in
-    let L = c.args.context.locals.now in
+    let T = c.args.context.now.nodes.now in
+    let L = c.args.context.now.locals.now in
     let k = c.args.k in
     let is = c.kind_of.ensures ∙ ap kind_of c.cell_at-cell.ensures in
     let e = c.left_of.ensures ∙ ap left_of c.cell_at-cell.ensures in
@@ -30,16 +30,16 @@ returns-in_err-scale c r h =
 pub overflow_sub-k : goal.overflow_sub-k
 overflow_sub-k c =
     let s = c in
-    let T = s.args.context.nodes.now in
-    let L = s.args.context.locals.now in
+    let T = s.args.context.now.nodes.now in
+    let L = s.args.context.now.locals.now in
     let k = s.args.k in
     let is = c.kind_of.ensures ∙ ap kind_of c.cell_at-cell.ensures in
     (atom-part T k c.kind_of.result is c.if-kind_of-ne-SCALED.false (length L) s.requires).0
 
 pub eval_node-requires : goal.eval_node-requires
 eval_node-requires c =
-    let T = c.args.context.nodes.now in
-    let L = c.args.context.locals.now in
+    let T = c.args.context.now.nodes.now in
+    let L = c.args.context.now.locals.now in
     let k = c.args.k in
     let is = c.kind_of.ensures ∙ ap kind_of c.cell_at-cell.ensures in
     (atom-part T k c.kind_of.result is c.if-kind_of-ne-SCALED.false (length L) c.requires).1
@@ -47,8 +47,8 @@ eval_node-requires c =
 pub returns-in_err-x : goal.returns-in_err-x
 unfolding given valued rate_of
 returns-in_err-x c =
-    let T = c.args.context.nodes.now in
-    let L = c.args.context.locals.now in
+    let T = c.args.context.now.nodes.now in
+    let L = c.args.context.now.locals.now in
     let k = c.args.k in
     let is = c.kind_of.ensures ∙ ap kind_of c.cell_at-cell.ensures in
     let e = c.left_of.ensures ∙ ap left_of c.cell_at-cell.ensures in
@@ -58,8 +58,8 @@ returns-in_err-x c =
 pub returns : goal.returns
 unfolding given valued
 returns c =
-    let T = c.args.context.nodes.now in
-    let L = c.args.context.locals.now in
+    let T = c.args.context.now.nodes.now in
+    let L = c.args.context.now.locals.now in
     let k = c.args.k in
     let is = c.kind_of.ensures ∙ ap kind_of c.cell_at-cell.ensures in
     let e = c.left_of.ensures ∙ ap left_of c.cell_at-cell.ensures in

@@ -16,8 +16,8 @@ use Rattle.eval.proofs.scale_of.Goals as goal
 pub returns-then-kind_of-eq-NUMBER : goal.returns-then-kind_of-eq-NUMBER
 returns-then-kind_of-eq-NUMBER c x h =
     let s = c in
-    let T = s.args.context.nodes.now in
-    let L = s.args.context.locals.now in
+    let T = s.args.context.now.nodes.now in
+    let L = s.args.context.now.locals.now in
     let k = s.args.k in
     let is = c.kind_of.ensures ∙ ap kind_of c.cell_at-cell.ensures in
     (simp (back c.number_of.result c.number_of.type_inv) at c.rate_in.ensures) ∙ ap (λ (z : ℤ). rate_of (in_rate z)) (c.number_of.ensures ∙ ap number_of c.cell_at-cell.ensures) ∙ fixed-is T k c.kind_of.result is L c.if-kind_of-eq-NUMBER.true x h
@@ -25,8 +25,8 @@ returns-then-kind_of-eq-NUMBER c x h =
 pub returns : goal.returns
 returns c x h =
     let s = c in
-    let T = s.args.context.nodes.now in
-    let L = s.args.context.locals.now in
+    let T = s.args.context.now.nodes.now in
+    let L = s.args.context.now.locals.now in
     let k = s.args.k in
     let is = c.kind_of.ensures ∙ ap kind_of c.cell_at-cell.ensures in
     let i = c.token_of.ensures ∙ ap token_of c.cell_at-cell.ensures in

@@ -14,8 +14,8 @@ use Rattle.eval.proofs.values_of.Goals as goal
 pub eval_node-requires : goal.eval_node-requires
 eval_node-requires c =
     let s = c in
-    let T = s.args.context.nodes.now in
-    let L = s.args.context.locals.now in
+    let T = s.args.context.now.nodes.now in
+    let L = s.args.context.now.locals.now in
     let k = s.args.k in
     let is = c.kind_of.ensures ∙ ap kind_of c.cell_at-cell.ensures in
     one-part T k c.kind_of.result is (Expr T) (GoodExpr (length L)) c.if-kind_of-ne-PAIR.true s.requires
@@ -23,8 +23,8 @@ eval_node-requires c =
 pub returns-in_err-x : goal.returns-in_err-x
 unfolding values_given values_of eval_all valued given
 returns-in_err-x c x h =
-    let T = c.args.context.nodes.now in
-    let L = c.args.context.locals.now in
+    let T = c.args.context.now.nodes.now in
+    let L = c.args.context.now.locals.now in
     let k = c.args.k in
     let is = c.kind_of.ensures ∙ ap kind_of c.cell_at-cell.ensures in
     c.from_residual.ensures ∙ (rw c.in_err-x.was at (one-value-is T k c.kind_of.result is L c.eval_node.result c.if-kind_of-ne-PAIR.true c.eval_node.ensures x h))
@@ -32,8 +32,8 @@ returns-in_err-x c x h =
 pub returns-then-kind_of-ne-PAIR : goal.returns-then-kind_of-ne-PAIR
 unfolding values_given values_of eval_all valued given
 returns-then-kind_of-ne-PAIR c x h =
-    let T = c.args.context.nodes.now in
-    let L = c.args.context.locals.now in
+    let T = c.args.context.now.nodes.now in
+    let L = c.args.context.now.locals.now in
     let k = c.args.k in
     let is = c.kind_of.ensures ∙ ap kind_of c.cell_at-cell.ensures in
     let d = back c.in_ok-x.x (omega arith) in
@@ -41,8 +41,8 @@ returns-then-kind_of-ne-PAIR c x h =
 
 pub eval_node-requires-2 : goal.eval_node-requires-2
 eval_node-requires-2 c =
-    let T = c.args.context.nodes.now in
-    let L = c.args.context.locals.now in
+    let T = c.args.context.now.nodes.now in
+    let L = c.args.context.now.locals.now in
     let k = c.args.k in
     let is = c.kind_of.ensures ∙ ap kind_of c.cell_at-cell.ensures in
     let f = two-parts T k c.kind_of.result is (Expr T) (GoodExpr (length L)) (expr-low T k c.kind_of.result is) c.if-kind_of-ne-PAIR.false c.requires in
@@ -51,8 +51,8 @@ eval_node-requires-2 c =
 
 pub returns-in_err-x-2 : goal.returns-in_err-x-2
 returns-in_err-x-2 c x h =
-    let T = c.args.context.nodes.now in
-    let L = c.args.context.locals.now in
+    let T = c.args.context.now.nodes.now in
+    let L = c.args.context.now.locals.now in
     let k = c.args.k in
     let is = c.kind_of.ensures ∙ ap kind_of c.cell_at-cell.ensures in
     let e = c.left_of.ensures ∙ ap left_of c.cell_at-cell.ensures in
@@ -60,8 +60,8 @@ returns-in_err-x-2 c x h =
 
 pub overflow_sub-k : goal.overflow_sub-k
 overflow_sub-k c =
-    let T = c.args.context.nodes.now in
-    let L = c.args.context.locals.now in
+    let T = c.args.context.now.nodes.now in
+    let L = c.args.context.now.locals.now in
     let k = c.args.k in
     let is = c.kind_of.ensures ∙ ap kind_of c.cell_at-cell.ensures in
     let f = two-parts T k c.kind_of.result is (Expr T) (GoodExpr (length L)) (expr-low T k c.kind_of.result is) c.if-kind_of-ne-PAIR.false c.requires in
@@ -69,8 +69,8 @@ overflow_sub-k c =
 
 pub eval_node-requires-3 : goal.eval_node-requires-3
 eval_node-requires-3 c =
-    let T = c.args.context.nodes.now in
-    let L = c.args.context.locals.now in
+    let T = c.args.context.now.nodes.now in
+    let L = c.args.context.now.locals.now in
     let k = c.args.k in
     let is = c.kind_of.ensures ∙ ap kind_of c.cell_at-cell.ensures in
     let f = two-parts T k c.kind_of.result is (Expr T) (GoodExpr (length L)) (expr-low T k c.kind_of.result is) c.if-kind_of-ne-PAIR.false c.requires in
@@ -79,8 +79,8 @@ eval_node-requires-3 c =
 pub returns-in_err-y : goal.returns-in_err-y
 unfolding values_given values_of eval_all valued given
 returns-in_err-y c x h =
-    let T = c.args.context.nodes.now in
-    let L = c.args.context.locals.now in
+    let T = c.args.context.now.nodes.now in
+    let L = c.args.context.now.locals.now in
     let k = c.args.k in
     let is = c.kind_of.ensures ∙ ap kind_of c.cell_at-cell.ensures in
     let e = c.left_of.ensures ∙ ap left_of c.cell_at-cell.ensures in
@@ -89,8 +89,8 @@ returns-in_err-y c x h =
 pub returns : goal.returns
 unfolding values_given values_of eval_all valued given
 returns c x h =
-    let T = c.args.context.nodes.now in
-    let L = c.args.context.locals.now in
+    let T = c.args.context.now.nodes.now in
+    let L = c.args.context.now.locals.now in
     let k = c.args.k in
     let is = c.kind_of.ensures ∙ ap kind_of c.cell_at-cell.ensures in
     let e = c.left_of.ensures ∙ ap left_of c.cell_at-cell.ensures in

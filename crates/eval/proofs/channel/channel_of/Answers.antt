@@ -10,24 +10,24 @@ use Rattle.eval.proofs.channel.channel_of.Goals as goal
 
 pub item_of-requires : goal.item_of-requires
 item_of-requires c =
-    let T = c.args.context.nodes.now in
-    let L = c.args.context.locals.now in
+    let T = c.args.context.now.nodes.now in
+    let L = c.args.context.now.locals.now in
     let k = c.args.k in
     let is = c.kind_of-kind.ensures ∙ ap kind_of c.cell_at-cell.ensures in
     (c.requires.0, one-part T k c.kind_of-kind.result is c.if-kind-lt-TWO_ITEMS.true c.requires.0 (length L) c.requires.1)
 
 pub returns-in_err-a : goal.returns-in_err-a
 returns-in_err-a c =
-    let T = c.args.context.nodes.now in
-    let L = c.args.context.locals.now in
+    let T = c.args.context.now.nodes.now in
+    let L = c.args.context.now.locals.now in
     let k = c.args.k in
     let is = c.kind_of-kind.ensures ∙ ap kind_of c.cell_at-cell.ensures in
     one-is T k c.kind_of-kind.result is c.if-kind-lt-TWO_ITEMS.true L c.item_of.result _ c.item_of.ensures (λ o e. c.from_residual.ensures ∙ lacks-first o _ (sym c.in_err-a.was ∙ e))
 
 pub returns-then-kind-lt-TWO_ITEMS : goal.returns-then-kind-lt-TWO_ITEMS
 returns-then-kind-lt-TWO_ITEMS c =
-    let T = c.args.context.nodes.now in
-    let L = c.args.context.locals.now in
+    let T = c.args.context.now.nodes.now in
+    let L = c.args.context.now.locals.now in
     let k = c.args.k in
     let is = c.kind_of-kind.ensures ∙ ap kind_of c.cell_at-cell.ensures in
     one-is T k c.kind_of-kind.result is c.if-kind-lt-TWO_ITEMS.true L c.item_of.result _ c.item_of.ensures
@@ -35,8 +35,8 @@ returns-then-kind-lt-TWO_ITEMS c =
 
 pub item_of-requires-2 : goal.item_of-requires-2
 item_of-requires-2 c =
-    let T = c.args.context.nodes.now in
-    let L = c.args.context.locals.now in
+    let T = c.args.context.now.nodes.now in
+    let L = c.args.context.now.locals.now in
     let k = c.args.k in
     let is = c.kind_of-kind.ensures ∙ ap kind_of c.cell_at-cell.ensures in
     let e = c.left_of.ensures ∙ ap left_of c.cell_at-cell.ensures in
@@ -44,8 +44,8 @@ item_of-requires-2 c =
 
 pub returns-in_err-a-2 : goal.returns-in_err-a-2
 returns-in_err-a-2 c =
-    let T = c.args.context.nodes.now in
-    let L = c.args.context.locals.now in
+    let T = c.args.context.now.nodes.now in
+    let L = c.args.context.now.locals.now in
     let k = c.args.k in
     let is = c.kind_of-kind.ensures ∙ ap kind_of c.cell_at-cell.ensures in
     let e = c.left_of.ensures ∙ ap left_of c.cell_at-cell.ensures in
@@ -53,24 +53,24 @@ returns-in_err-a-2 c =
 
 pub overflow_sub-k : goal.overflow_sub-k
 overflow_sub-k c =
-    let T = c.args.context.nodes.now in
-    let L = c.args.context.locals.now in
+    let T = c.args.context.now.nodes.now in
+    let L = c.args.context.now.locals.now in
     let k = c.args.k in
     let is = c.kind_of-kind.ensures ∙ ap kind_of c.cell_at-cell.ensures in
     (first_part T k c.kind_of-kind.result is (λ h. omega (arith, c.if-kind-lt-TWO_ITEMS.false)) c.requires.0 (length L) c.requires.1).0
 
 pub item_of-requires-then-kind-eq-TWO_ITEMS : goal.item_of-requires-then-kind-eq-TWO_ITEMS
 item_of-requires-then-kind-eq-TWO_ITEMS c =
-    let T = c.args.context.nodes.now in
-    let L = c.args.context.locals.now in
+    let T = c.args.context.now.nodes.now in
+    let L = c.args.context.now.locals.now in
     let k = c.args.k in
     let is = c.kind_of-kind.ensures ∙ ap kind_of c.cell_at-cell.ensures in
     (c.requires.0, two-part T k c.kind_of-kind.result is c.if-kind-eq-TWO_ITEMS.true c.requires.0 (length L) c.requires.1)
 
 pub returns-in_err-b : goal.returns-in_err-b
 returns-in_err-b c =
-    let T = c.args.context.nodes.now in
-    let L = c.args.context.locals.now in
+    let T = c.args.context.now.nodes.now in
+    let L = c.args.context.now.locals.now in
     let k = c.args.k in
     let is = c.kind_of-kind.ensures ∙ ap kind_of c.cell_at-cell.ensures in
     let e = c.left_of.ensures ∙ ap left_of c.cell_at-cell.ensures in
@@ -79,8 +79,8 @@ returns-in_err-b c =
 
 pub returns-then-kind-eq-TWO_ITEMS : goal.returns-then-kind-eq-TWO_ITEMS
 returns-then-kind-eq-TWO_ITEMS c =
-    let T = c.args.context.nodes.now in
-    let L = c.args.context.locals.now in
+    let T = c.args.context.now.nodes.now in
+    let L = c.args.context.now.locals.now in
     let k = c.args.k in
     let is = c.kind_of-kind.ensures ∙ ap kind_of c.cell_at-cell.ensures in
     let e = c.left_of.ensures ∙ ap left_of c.cell_at-cell.ensures in
@@ -90,8 +90,8 @@ returns-then-kind-eq-TWO_ITEMS c =
 
 pub item_of-requires-3 : goal.item_of-requires-3
 item_of-requires-3 c =
-    let T = c.args.context.nodes.now in
-    let L = c.args.context.locals.now in
+    let T = c.args.context.now.nodes.now in
+    let L = c.args.context.now.locals.now in
     let k = c.args.k in
     let is = c.kind_of-kind.ensures ∙ ap kind_of c.cell_at-cell.ensures in
     let d = c.third_of.ensures ∙ ap third_of c.cell_at-cell.ensures in
@@ -99,8 +99,8 @@ item_of-requires-3 c =
 
 pub returns-in_err-b-2 : goal.returns-in_err-b-2
 returns-in_err-b-2 c =
-    let T = c.args.context.nodes.now in
-    let L = c.args.context.locals.now in
+    let T = c.args.context.now.nodes.now in
+    let L = c.args.context.now.locals.now in
     let k = c.args.k in
     let is = c.kind_of-kind.ensures ∙ ap kind_of c.cell_at-cell.ensures in
     let d = c.third_of.ensures ∙ ap third_of c.cell_at-cell.ensures in
@@ -108,24 +108,24 @@ returns-in_err-b-2 c =
 
 pub overflow_sub-k-2 : goal.overflow_sub-k-2
 overflow_sub-k-2 c =
-    let T = c.args.context.nodes.now in
-    let L = c.args.context.locals.now in
+    let T = c.args.context.now.nodes.now in
+    let L = c.args.context.now.locals.now in
     let k = c.args.k in
     let is = c.kind_of-kind.ensures ∙ ap kind_of c.cell_at-cell.ensures in
     (first_part T k c.kind_of-kind.result is (λ h. omega (arith, c.if-kind-lt-TWO_ITEMS.false)) c.requires.0 (length L) c.requires.1).0
 
 pub item_of-requires-4 : goal.item_of-requires-4
 item_of-requires-4 c =
-    let T = c.args.context.nodes.now in
-    let L = c.args.context.locals.now in
+    let T = c.args.context.now.nodes.now in
+    let L = c.args.context.now.locals.now in
     let k = c.args.k in
     let is = c.kind_of-kind.ensures ∙ ap kind_of c.cell_at-cell.ensures in
     (c.requires.0, (three-parts T k c.kind_of-kind.result is (λ h. omega (arith, c.if-kind-lt-TWO_ITEMS.false)) c.if-kind-eq-TWO_ITEMS.false c.requires.0 (length L) c.requires.1).1)
 
 pub returns-in_err-c : goal.returns-in_err-c
 returns-in_err-c c =
-    let T = c.args.context.nodes.now in
-    let L = c.args.context.locals.now in
+    let T = c.args.context.now.nodes.now in
+    let L = c.args.context.now.locals.now in
     let k = c.args.k in
     let is = c.kind_of-kind.ensures ∙ ap kind_of c.cell_at-cell.ensures in
     let e = c.left_of.ensures ∙ ap left_of c.cell_at-cell.ensures in
@@ -135,8 +135,8 @@ returns-in_err-c c =
 
 pub returns : goal.returns
 returns c =
-    let T = c.args.context.nodes.now in
-    let L = c.args.context.locals.now in
+    let T = c.args.context.now.nodes.now in
+    let L = c.args.context.now.locals.now in
     let k = c.args.k in
     let is = c.kind_of-kind.ensures ∙ ap kind_of c.cell_at-cell.ensures in
     let e = c.left_of.ensures ∙ ap left_of c.cell_at-cell.ensures in

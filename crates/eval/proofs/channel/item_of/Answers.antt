@@ -21,8 +21,8 @@ overflow_cast-n c = omega (arith, c.token_of-n.ensures)
 pub returns-then-kind_of-eq-CHANNEL : goal.returns-then-kind_of-eq-CHANNEL
 unfolding token_of
 returns-then-kind_of-eq-CHANNEL c =
-    let T = c.args.context.nodes.now in
-    let L = c.args.context.locals.now in
+    let T = c.args.context.now.nodes.now in
+    let L = c.args.context.now.locals.now in
     let k = c.args.k in
     let is = c.kind_of.ensures ∙ ap kind_of c.cell_at-cell.ensures in
     let e = to_z_pos w64 {n = c.token_of-n.result} (omega (arith, c.token_of-n.ensures)) ∙ ap pos (c.token_of-n.ensures ∙ ap token_of c.cell_at-cell.ensures) in
@@ -30,8 +30,8 @@ returns-then-kind_of-eq-CHANNEL c =
 
 pub eval_node-requires : goal.eval_node-requires
 eval_node-requires c =
-    let T = c.args.context.nodes.now in
-    let L = c.args.context.locals.now in
+    let T = c.args.context.now.nodes.now in
+    let L = c.args.context.now.locals.now in
     let k = c.args.k in
     let is = c.kind_of.ensures ∙ ap kind_of c.cell_at-cell.ensures in
     number-part T k c.kind_of.result is c.if-kind_of-eq-CHANNEL.false c.requires.0 (length L) c.requires.1
@@ -39,8 +39,8 @@ eval_node-requires c =
 pub returns : goal.returns
 unfolding valued item_of
 returns c =
-    let T = c.args.context.nodes.now in
-    let L = c.args.context.locals.now in
+    let T = c.args.context.now.nodes.now in
+    let L = c.args.context.now.locals.now in
     let k = c.args.k in
     let is = c.kind_of.ensures ∙ ap kind_of c.cell_at-cell.ensures in
     let d = back c.in_ok-value.value (omega arith) in
@@ -49,8 +49,8 @@ returns c =
 pub returns-in_err-value : goal.returns-in_err-value
 unfolding valued item_of
 returns-in_err-value c =
-    let T = c.args.context.nodes.now in
-    let L = c.args.context.locals.now in
+    let T = c.args.context.now.nodes.now in
+    let L = c.args.context.now.locals.now in
     let k = c.args.k in
     let is = c.kind_of.ensures ∙ ap kind_of c.cell_at-cell.ensures in
     rw c.from_residual.ensures (λ y h. rw c.in_err-value.was at (number_is T k c.kind_of.result is c.if-kind_of-eq-CHANNEL.false L c.eval_node.result c.eval_node.ensures y h))

@@ -8,8 +8,8 @@ use Rattle.eval.proofs.next.+arguments_given.Goals as goal
 pub overflow_sub-k : goal.overflow_sub-k
 overflow_sub-k t c =
     let s = c in
-    let T = s.args.context.nodes.now in
-    let L = s.args.context.locals.now in
+    let T = s.args.context.now.nodes.now in
+    let L = s.args.context.now.locals.now in
     let k = s.args.k in
     let is = c.kind_of-kind.ensures ∙ ap kind_of c.cell_at-cell.ensures in
     (group-held T k c.kind_of-kind.result is c.if-kind-eq-GROUP.true s.requires.0 (length L) s.requires.1).0
@@ -17,8 +17,8 @@ overflow_sub-k t c =
 pub arguments_given-requires : goal.arguments_given-requires
 arguments_given-requires t c =
     let s = c in
-    let T = s.args.context.nodes.now in
-    let L = s.args.context.locals.now in
+    let T = s.args.context.now.nodes.now in
+    let L = s.args.context.now.locals.now in
     let k = s.args.k in
     let is = c.kind_of-kind.ensures ∙ ap kind_of c.cell_at-cell.ensures in
     let f = group-held T k c.kind_of-kind.result is c.if-kind-eq-GROUP.true s.requires.0 (length L) s.requires.1 in
@@ -27,8 +27,8 @@ arguments_given-requires t c =
 pub returns-then-kind-eq-GROUP : goal.returns-then-kind-eq-GROUP
 returns-then-kind-eq-GROUP t c =
     let s = c in
-    let T = s.args.context.nodes.now in
-    let L = s.args.context.locals.now in
+    let T = s.args.context.now.nodes.now in
+    let L = s.args.context.now.locals.now in
     let k = s.args.k in
     let is = c.kind_of-kind.ensures ∙ ap kind_of c.cell_at-cell.ensures in
     group-given T k c.kind_of-kind.result is c.if-kind-eq-GROUP.true L c.arguments_given.result c.arguments_given.ensures
@@ -36,8 +36,8 @@ returns-then-kind-eq-GROUP t c =
 pub arguments_given-requires-then-kind-eq-ITEM : goal.arguments_given-requires-then-kind-eq-ITEM
 arguments_given-requires-then-kind-eq-ITEM t c =
     let s = c in
-    let T = s.args.context.nodes.now in
-    let L = s.args.context.locals.now in
+    let T = s.args.context.now.nodes.now in
+    let L = s.args.context.now.locals.now in
     let k = s.args.k in
     let is = c.kind_of-kind.ensures ∙ ap kind_of c.cell_at-cell.ensures in
     let e = c.left_of.ensures ∙ ap left_of c.cell_at-cell.ensures in
@@ -47,8 +47,8 @@ arguments_given-requires-then-kind-eq-ITEM t c =
 pub overflow_sub-k-then-arguments_given : goal.overflow_sub-k-then-arguments_given
 overflow_sub-k-then-arguments_given t c =
     let s = c in
-    let T = s.args.context.nodes.now in
-    let L = s.args.context.locals.now in
+    let T = s.args.context.now.nodes.now in
+    let L = s.args.context.now.locals.now in
     let k = s.args.k in
     let is = c.kind_of-kind.ensures ∙ ap kind_of c.cell_at-cell.ensures in
     (item-held T k c.kind_of-kind.result is c.if-kind-eq-ITEM.true s.requires.0 (length L) s.requires.1).0
@@ -56,8 +56,8 @@ overflow_sub-k-then-arguments_given t c =
 pub arguments_given-requires-then-arguments_given : goal.arguments_given-requires-then-arguments_given
 arguments_given-requires-then-arguments_given t c =
     let s = c in
-    let T = s.args.context.nodes.now in
-    let L = s.args.context.locals.now in
+    let T = s.args.context.now.nodes.now in
+    let L = s.args.context.now.locals.now in
     let k = s.args.k in
     let is = c.kind_of-kind.ensures ∙ ap kind_of c.cell_at-cell.ensures in
     let f = item-held T k c.kind_of-kind.result is c.if-kind-eq-ITEM.true s.requires.0 (length L) s.requires.1 in
@@ -66,8 +66,8 @@ arguments_given-requires-then-arguments_given t c =
 pub returns-then-arguments_given : goal.returns-then-arguments_given
 returns-then-arguments_given t c =
     let s = c in
-    let T = s.args.context.nodes.now in
-    let L = s.args.context.locals.now in
+    let T = s.args.context.now.nodes.now in
+    let L = s.args.context.now.locals.now in
     let k = s.args.k in
     let is = c.kind_of-kind.ensures ∙ ap kind_of c.cell_at-cell.ensures in
     let e = c.left_of.ensures ∙ ap left_of c.cell_at-cell.ensures in
@@ -76,8 +76,8 @@ returns-then-arguments_given t c =
 pub returns-else-arguments_given : goal.returns-else-arguments_given
 returns-else-arguments_given t c =
     let s = c in
-    let T = s.args.context.nodes.now in
-    let L = s.args.context.locals.now in
+    let T = s.args.context.now.nodes.now in
+    let L = s.args.context.now.locals.now in
     let k = s.args.k in
     let is = c.kind_of-kind.ensures ∙ ap kind_of c.cell_at-cell.ensures in
     let e = c.left_of.ensures ∙ ap left_of c.cell_at-cell.ensures in
@@ -86,8 +86,8 @@ returns-else-arguments_given t c =
 pub overflow_sub-k-then-kind-eq-CALL_WITH : goal.overflow_sub-k-then-kind-eq-CALL_WITH
 overflow_sub-k-then-kind-eq-CALL_WITH t c =
     let s = c in
-    let T = s.args.context.nodes.now in
-    let L = s.args.context.locals.now in
+    let T = s.args.context.now.nodes.now in
+    let L = s.args.context.now.locals.now in
     let k = s.args.k in
     let is = c.kind_of-kind.ensures ∙ ap kind_of c.cell_at-cell.ensures in
     (call-held T k c.kind_of-kind.result is c.if-kind-eq-CALL_WITH.true s.requires.0 (length L) s.requires.1).0
@@ -95,8 +95,8 @@ overflow_sub-k-then-kind-eq-CALL_WITH t c =
 pub arguments_known-requires : goal.arguments_known-requires
 arguments_known-requires t c =
     let s = c in
-    let T = s.args.context.nodes.now in
-    let L = s.args.context.locals.now in
+    let T = s.args.context.now.nodes.now in
+    let L = s.args.context.now.locals.now in
     let k = s.args.k in
     let is = c.kind_of-kind.ensures ∙ ap kind_of c.cell_at-cell.ensures in
     let f = call-held T k c.kind_of-kind.result is c.if-kind-eq-CALL_WITH.true s.requires.0 (length L) s.requires.1 in
@@ -105,8 +105,8 @@ arguments_known-requires t c =
 pub returns-then-kind-eq-CALL_WITH : goal.returns-then-kind-eq-CALL_WITH
 returns-then-kind-eq-CALL_WITH t c =
     let s = c in
-    let T = s.args.context.nodes.now in
-    let L = s.args.context.locals.now in
+    let T = s.args.context.now.nodes.now in
+    let L = s.args.context.now.locals.now in
     let k = s.args.k in
     let is = c.kind_of-kind.ensures ∙ ap kind_of c.cell_at-cell.ensures in
     call-given T k c.kind_of-kind.result is c.if-kind-eq-CALL_WITH.true L c.arguments_known.result c.arguments_known.ensures
@@ -114,8 +114,8 @@ returns-then-kind-eq-CALL_WITH t c =
 pub returns : goal.returns
 returns t c =
     let s = c in
-    let T = s.args.context.nodes.now in
-    let L = s.args.context.locals.now in
+    let T = s.args.context.now.nodes.now in
+    let L = s.args.context.now.locals.now in
     let k = s.args.k in
     let is = c.kind_of-kind.ensures ∙ ap kind_of c.cell_at-cell.ensures in
     others-given T k c.kind_of-kind.result is L c.if-kind-eq-GROUP.false c.if-kind-eq-ITEM.false c.if-kind-eq-CALL_WITH.false

@@ -13,8 +13,8 @@ use Rattle.eval.proofs.next.+put_arguments.Goals as goal
 pub eval_node-requires : goal.eval_node-requires
 eval_node-requires t c =
     let s = c in
-    let T = s.args.context.nodes.now in
-    let L = s.args.context.locals.now in
+    let T = s.args.context.now.nodes.now in
+    let L = s.args.context.now.locals.now in
     let k = s.args.k in
     let is = c.kind_of.ensures ∙ ap kind_of c.cell_at-cell.ensures in
     last-part T k c.kind_of.result is c.if-kind_of-ne-ARGUMENT.true (length L) (room-some T (length L) k _ _ s.requires)
@@ -22,8 +22,8 @@ eval_node-requires t c =
 pub offset_bounds-values-at : goal.offset_bounds-values-at
 offset_bounds-values-at t c =
     let s = c in
-    let T = s.args.context.nodes.now in
-    let L = s.args.context.locals.now in
+    let T = s.args.context.now.nodes.now in
+    let L = s.args.context.now.locals.now in
     let k = s.args.k in
     let h = room-inside T (length L) k _ _ s.requires in
     omega (arith, h, s.well_formed)
@@ -31,8 +31,8 @@ offset_bounds-values-at t c =
 pub bounds-values-at : goal.bounds-values-at
 bounds-values-at t c =
     let s = c in
-    let T = s.args.context.nodes.now in
-    let L = s.args.context.locals.now in
+    let T = s.args.context.now.nodes.now in
+    let L = s.args.context.now.locals.now in
     let k = s.args.k in
     room-inside T (length L) k _ _ s.requires
 
@@ -43,8 +43,8 @@ shape_of-values-then-kind_of-ne-ARGUMENT t c =
 pub returns-then-kind_of-ne-ARGUMENT : goal.returns-then-kind_of-ne-ARGUMENT
 returns-then-kind_of-ne-ARGUMENT t c =
     let s = c in
-    let T = s.args.context.nodes.now in
-    let L = s.args.context.locals.now in
+    let T = s.args.context.now.nodes.now in
+    let L = s.args.context.now.locals.now in
     let k = s.args.k in
     let is = c.kind_of.ensures ∙ ap kind_of c.cell_at-cell.ensures in
     let v = s.args.values.now in
@@ -54,8 +54,8 @@ returns-then-kind_of-ne-ARGUMENT t c =
 pub eval_node-requires-2 : goal.eval_node-requires-2
 eval_node-requires-2 t c =
     let s = c in
-    let T = s.args.context.nodes.now in
-    let L = s.args.context.locals.now in
+    let T = s.args.context.now.nodes.now in
+    let L = s.args.context.now.locals.now in
     let k = s.args.k in
     let is = c.kind_of.ensures ∙ ap kind_of c.cell_at-cell.ensures in
     let e = c.left_of.ensures ∙ ap left_of c.cell_at-cell.ensures in
@@ -65,8 +65,8 @@ eval_node-requires-2 t c =
 pub offset_bounds-values-at-2 : goal.offset_bounds-values-at-2
 offset_bounds-values-at-2 t c =
     let s = c in
-    let T = s.args.context.nodes.now in
-    let L = s.args.context.locals.now in
+    let T = s.args.context.now.nodes.now in
+    let L = s.args.context.now.locals.now in
     let k = s.args.k in
     let h = room-inside T (length L) k _ _ s.requires in
     omega (arith, h, s.well_formed)
@@ -74,16 +74,16 @@ offset_bounds-values-at-2 t c =
 pub bounds-values-at-2 : goal.bounds-values-at-2
 bounds-values-at-2 t c =
     let s = c in
-    let T = s.args.context.nodes.now in
-    let L = s.args.context.locals.now in
+    let T = s.args.context.now.nodes.now in
+    let L = s.args.context.now.locals.now in
     let k = s.args.k in
     room-inside T (length L) k _ _ s.requires
 
 pub overflow_sub-k : goal.overflow_sub-k
 overflow_sub-k t c =
     let s = c in
-    let T = s.args.context.nodes.now in
-    let L = s.args.context.locals.now in
+    let T = s.args.context.now.nodes.now in
+    let L = s.args.context.now.locals.now in
     let k = s.args.k in
     let is = c.kind_of.ensures ∙ ap kind_of c.cell_at-cell.ensures in
     (more_parts T k c.kind_of.result is c.if-kind_of-ne-ARGUMENT.false (length L) (room-some T (length L) k _ _ s.requires)).0
@@ -91,8 +91,8 @@ overflow_sub-k t c =
 pub overflow_add-at : goal.overflow_add-at
 overflow_add-at t c =
     let s = c in
-    let T = s.args.context.nodes.now in
-    let L = s.args.context.locals.now in
+    let T = s.args.context.now.nodes.now in
+    let L = s.args.context.now.locals.now in
     let k = s.args.k in
     let h = room-inside T (length L) k _ _ s.requires in
     omega (arith, h, s.well_formed)
@@ -100,8 +100,8 @@ overflow_add-at t c =
 pub put_arguments-requires : goal.put_arguments-requires
 put_arguments-requires t c =
     let s = c in
-    let T = s.args.context.nodes.now in
-    let L = s.args.context.locals.now in
+    let T = s.args.context.now.nodes.now in
+    let L = s.args.context.now.locals.now in
     let k = s.args.k in
     let is = c.kind_of.ensures ∙ ap kind_of c.cell_at-cell.ensures in
     let f = more_parts T k c.kind_of.result is c.if-kind_of-ne-ARGUMENT.false (length L) (room-some T (length L) k _ _ s.requires) in
@@ -115,8 +115,8 @@ shape_of-values t c =
 pub returns : goal.returns
 returns t c =
     let s = c in
-    let T = s.args.context.nodes.now in
-    let L = s.args.context.locals.now in
+    let T = s.args.context.now.nodes.now in
+    let L = s.args.context.now.locals.now in
     let k = s.args.k in
     let is = c.kind_of.ensures ∙ ap kind_of c.cell_at-cell.ensures in
     let e = c.left_of.ensures ∙ ap left_of c.cell_at-cell.ensures in

@@ -8,16 +8,16 @@ use Rattle.eval.proofs.offer.action_offer.Goals as goal
 
 pub returns-then-kind-eq-WAIT : goal.returns-then-kind-eq-WAIT
 returns-then-kind-eq-WAIT c =
-    let T = c.args.context.nodes.now in
-    let L = c.args.context.locals.now in
+    let T = c.args.context.now.nodes.now in
+    let L = c.args.context.now.locals.now in
     let k = c.args.k in
     let is = c.kind_of-kind.ensures ∙ ap kind_of c.cell_at-cell.ensures in
     rw c.wait_offer.ensures (wait-shown T k c.kind_of-kind.result is L c.args.rate c.if-kind-eq-WAIT.true)
 
 pub channel_of-requires : goal.channel_of-requires
 channel_of-requires c =
-    let T = c.args.context.nodes.now in
-    let L = c.args.context.locals.now in
+    let T = c.args.context.now.nodes.now in
+    let L = c.args.context.now.locals.now in
     let k = c.args.k in
     let is = c.kind_of-kind.ensures ∙ ap kind_of c.cell_at-cell.ensures in
     let e = c.left_of.ensures ∙ ap left_of c.cell_at-cell.ensures in
@@ -26,8 +26,8 @@ channel_of-requires c =
 
 pub returns-in_err-channel : goal.returns-in_err-channel
 returns-in_err-channel c =
-    let T = c.args.context.nodes.now in
-    let L = c.args.context.locals.now in
+    let T = c.args.context.now.nodes.now in
+    let L = c.args.context.now.locals.now in
     let k = c.args.k in
     let is = c.kind_of-kind.ensures ∙ ap kind_of c.cell_at-cell.ensures in
     let e = c.left_of.ensures ∙ ap left_of c.cell_at-cell.ensures in
@@ -35,8 +35,8 @@ returns-in_err-channel c =
 
 pub overflow_sub-k : goal.overflow_sub-k
 overflow_sub-k c =
-    let T = c.args.context.nodes.now in
-    let L = c.args.context.locals.now in
+    let T = c.args.context.now.nodes.now in
+    let L = c.args.context.now.locals.now in
     let k = c.args.k in
     let is = c.kind_of-kind.ensures ∙ ap kind_of c.cell_at-cell.ensures in
     let f = channel-part T k c.kind_of-kind.result is c.if-kind-eq-WAIT.false c.requires.0 (length L) c.requires.1 in
@@ -44,8 +44,8 @@ overflow_sub-k c =
 
 pub values_of-requires : goal.values_of-requires
 values_of-requires c =
-    let T = c.args.context.nodes.now in
-    let L = c.args.context.locals.now in
+    let T = c.args.context.now.nodes.now in
+    let L = c.args.context.now.locals.now in
     let k = c.args.k in
     let is = c.kind_of-kind.ensures ∙ ap kind_of c.cell_at-cell.ensures in
     let h = sym c.carries.ensures ∙ c.if-carries.true in
@@ -55,8 +55,8 @@ values_of-requires c =
 pub returns-in_err-values_of : goal.returns-in_err-values_of
 unfolding listed assembled
 returns-in_err-values_of c =
-    let T = c.args.context.nodes.now in
-    let L = c.args.context.locals.now in
+    let T = c.args.context.now.nodes.now in
+    let L = c.args.context.now.locals.now in
     let k = c.args.k in
     let is = c.kind_of-kind.ensures ∙ ap kind_of c.cell_at-cell.ensures in
     let e = c.left_of.ensures ∙ ap left_of c.cell_at-cell.ensures in
@@ -66,8 +66,8 @@ returns-in_err-values_of c =
 pub returns-then-carries : goal.returns-then-carries
 unfolding listed assembled
 returns-then-carries c =
-    let T = c.args.context.nodes.now in
-    let L = c.args.context.locals.now in
+    let T = c.args.context.now.nodes.now in
+    let L = c.args.context.now.locals.now in
     let k = c.args.k in
     let is = c.kind_of-kind.ensures ∙ ap kind_of c.cell_at-cell.ensures in
     let e = c.left_of.ensures ∙ ap left_of c.cell_at-cell.ensures in
@@ -76,8 +76,8 @@ returns-then-carries c =
 
 pub overflow_sub-k-2 : goal.overflow_sub-k-2
 overflow_sub-k-2 c =
-    let T = c.args.context.nodes.now in
-    let L = c.args.context.locals.now in
+    let T = c.args.context.now.nodes.now in
+    let L = c.args.context.now.locals.now in
     let k = c.args.k in
     let is = c.kind_of-kind.ensures ∙ ap kind_of c.cell_at-cell.ensures in
     let f = channel-part T k c.kind_of-kind.result is c.if-kind-eq-WAIT.false c.requires.0 (length L) c.requires.1 in
@@ -85,8 +85,8 @@ overflow_sub-k-2 c =
 
 pub listed_sets-requires : goal.listed_sets-requires
 listed_sets-requires c =
-    let T = c.args.context.nodes.now in
-    let L = c.args.context.locals.now in
+    let T = c.args.context.now.nodes.now in
+    let L = c.args.context.now.locals.now in
     let k = c.args.k in
     let is = c.kind_of-kind.ensures ∙ ap kind_of c.cell_at-cell.ensures in
     let h = sym c.carries.ensures ∙ c.if-carries.false in
@@ -96,8 +96,8 @@ listed_sets-requires c =
 pub returns-in_err-list : goal.returns-in_err-list
 unfolding assembled
 returns-in_err-list c =
-    let T = c.args.context.nodes.now in
-    let L = c.args.context.locals.now in
+    let T = c.args.context.now.nodes.now in
+    let L = c.args.context.now.locals.now in
     let k = c.args.k in
     let is = c.kind_of-kind.ensures ∙ ap kind_of c.cell_at-cell.ensures in
     let e = c.left_of.ensures ∙ ap left_of c.cell_at-cell.ensures in
@@ -107,8 +107,8 @@ returns-in_err-list c =
 pub returns : goal.returns
 unfolding assembled
 returns c =
-    let T = c.args.context.nodes.now in
-    let L = c.args.context.locals.now in
+    let T = c.args.context.now.nodes.now in
+    let L = c.args.context.now.locals.now in
     let k = c.args.k in
     let is = c.kind_of-kind.ensures ∙ ap kind_of c.cell_at-cell.ensures in
     let e = c.left_of.ensures ∙ ap left_of c.cell_at-cell.ensures in

@@ -15,32 +15,32 @@ use Rattle.eval.proofs.offer.listed_sets.Goals as goal
 pub set_of-requires : goal.set_of-requires
 set_of-requires c =
     let s = c in
-    let T = s.args.context.nodes.now in
-    let L = s.args.context.locals.now in
+    let T = s.args.context.now.nodes.now in
+    let L = s.args.context.now.locals.now in
     let k = s.args.k in
     let is = c.kind_of.ensures ∙ ap kind_of c.cell_at-cell.ensures in
     one-part T k c.kind_of.result is (Set T) (GoodSet (length L)) c.if-kind_of-ne-PAIR.true s.requires
 
 pub returns-in_err-set : goal.returns-in_err-set
 returns-in_err-set c ss h =
-    let T = c.args.context.nodes.now in
-    let L = c.args.context.locals.now in
+    let T = c.args.context.now.nodes.now in
+    let L = c.args.context.now.locals.now in
     let k = c.args.k in
     let is = c.kind_of.ensures ∙ ap kind_of c.cell_at-cell.ensures in
     rw c.from_residual.ensures (one-lacks T k c.kind_of.result is L c.if-kind_of-ne-PAIR.true (rw c.in_err-set.was at c.set_of.ensures) ss h)
 
 pub numbers-a-requires : goal.numbers-a-requires
 numbers-a-requires c =
-    let T = c.args.context.nodes.now in
-    let L = c.args.context.locals.now in
+    let T = c.args.context.now.nodes.now in
+    let L = c.args.context.now.locals.now in
     let k = c.args.k in
     let is = c.kind_of.ensures ∙ ap kind_of c.cell_at-cell.ensures in
     set-numbered T L c.in_ok-set.set (omega (arith, c.well_formed)) k (one-part T k c.kind_of.result is (Set T) (GoodSet (length L)) c.if-kind_of-ne-PAIR.true c.requires) (rw c.in_ok-set.was at c.set_of.ensures)
 
 pub returns-then-kind_of-ne-PAIR : goal.returns-then-kind_of-ne-PAIR
 returns-then-kind_of-ne-PAIR c ss h =
-    let T = c.args.context.nodes.now in
-    let L = c.args.context.locals.now in
+    let T = c.args.context.now.nodes.now in
+    let L = c.args.context.now.locals.now in
     let k = c.args.k in
     let is = c.kind_of.ensures ∙ ap kind_of c.cell_at-cell.ensures in
     rw (back c.numbers-a.result.0 (omega arith), back c.numbers-a.result.1 (omega arith))
@@ -48,8 +48,8 @@ returns-then-kind_of-ne-PAIR c ss h =
 
 pub set_of-requires-2 : goal.set_of-requires-2
 set_of-requires-2 c =
-    let T = c.args.context.nodes.now in
-    let L = c.args.context.locals.now in
+    let T = c.args.context.now.nodes.now in
+    let L = c.args.context.now.locals.now in
     let k = c.args.k in
     let is = c.kind_of.ensures ∙ ap kind_of c.cell_at-cell.ensures in
     let e = c.left_of.ensures ∙ ap left_of c.cell_at-cell.ensures in
@@ -58,8 +58,8 @@ set_of-requires-2 c =
 
 pub returns-in_err-first : goal.returns-in_err-first
 returns-in_err-first c ss h =
-    let T = c.args.context.nodes.now in
-    let L = c.args.context.locals.now in
+    let T = c.args.context.now.nodes.now in
+    let L = c.args.context.now.locals.now in
     let k = c.args.k in
     let is = c.kind_of.ensures ∙ ap kind_of c.cell_at-cell.ensures in
     let e = c.left_of.ensures ∙ ap left_of c.cell_at-cell.ensures in
@@ -67,8 +67,8 @@ returns-in_err-first c ss h =
 
 pub overflow_sub-k : goal.overflow_sub-k
 overflow_sub-k c =
-    let T = c.args.context.nodes.now in
-    let L = c.args.context.locals.now in
+    let T = c.args.context.now.nodes.now in
+    let L = c.args.context.now.locals.now in
     let k = c.args.k in
     let is = c.kind_of.ensures ∙ ap kind_of c.cell_at-cell.ensures in
     let f = two-parts T k c.kind_of.result is (Set T) (GoodSet (length L)) (set-low T k c.kind_of.result is) c.if-kind_of-ne-PAIR.false c.requires in
@@ -76,8 +76,8 @@ overflow_sub-k c =
 
 pub set_of-requires-3 : goal.set_of-requires-3
 set_of-requires-3 c =
-    let T = c.args.context.nodes.now in
-    let L = c.args.context.locals.now in
+    let T = c.args.context.now.nodes.now in
+    let L = c.args.context.now.locals.now in
     let k = c.args.k in
     let is = c.kind_of.ensures ∙ ap kind_of c.cell_at-cell.ensures in
     let f = two-parts T k c.kind_of.result is (Set T) (GoodSet (length L)) (set-low T k c.kind_of.result is) c.if-kind_of-ne-PAIR.false c.requires in
@@ -85,8 +85,8 @@ set_of-requires-3 c =
 
 pub returns-in_err-second : goal.returns-in_err-second
 returns-in_err-second c ss h =
-    let T = c.args.context.nodes.now in
-    let L = c.args.context.locals.now in
+    let T = c.args.context.now.nodes.now in
+    let L = c.args.context.now.locals.now in
     let k = c.args.k in
     let is = c.kind_of.ensures ∙ ap kind_of c.cell_at-cell.ensures in
     let e = c.left_of.ensures ∙ ap left_of c.cell_at-cell.ensures in
@@ -94,8 +94,8 @@ returns-in_err-second c ss h =
 
 pub numbers-a-requires-2 : goal.numbers-a-requires-2
 numbers-a-requires-2 c =
-    let T = c.args.context.nodes.now in
-    let L = c.args.context.locals.now in
+    let T = c.args.context.now.nodes.now in
+    let L = c.args.context.now.locals.now in
     let k = c.args.k in
     let is = c.kind_of.ensures ∙ ap kind_of c.cell_at-cell.ensures in
     let e = c.left_of.ensures ∙ ap left_of c.cell_at-cell.ensures in
@@ -104,8 +104,8 @@ numbers-a-requires-2 c =
 
 pub numbers-c-requires : goal.numbers-c-requires
 numbers-c-requires c =
-    let T = c.args.context.nodes.now in
-    let L = c.args.context.locals.now in
+    let T = c.args.context.now.nodes.now in
+    let L = c.args.context.now.locals.now in
     let k = c.args.k in
     let is = c.kind_of.ensures ∙ ap kind_of c.cell_at-cell.ensures in
     let e = c.left_of.ensures ∙ ap left_of c.cell_at-cell.ensures in
@@ -114,8 +114,8 @@ numbers-c-requires c =
 
 pub returns : goal.returns
 returns c ss h =
-    let T = c.args.context.nodes.now in
-    let L = c.args.context.locals.now in
+    let T = c.args.context.now.nodes.now in
+    let L = c.args.context.now.locals.now in
     let k = c.args.k in
     let is = c.kind_of.ensures ∙ ap kind_of c.cell_at-cell.ensures in
     let e = c.left_of.ensures ∙ ap left_of c.cell_at-cell.ensures in

@@ -9,8 +9,8 @@ use Rattle.eval.proofs.offer.offer_of.Goals as goal
 pub prefix_offer-requires : goal.prefix_offer-requires
 prefix_offer-requires c =
     let s = c in
-    let T = s.args.context.nodes.now in
-    let L = s.args.context.locals.now in
+    let T = s.args.context.now.nodes.now in
+    let L = s.args.context.now.locals.now in
     let k = s.args.k in
     let is = c.kind_of.ensures ∙ ap kind_of c.cell_at-cell.ensures in
     ungated-prefix T k c.kind_of.result is c.if-kind_of-ne-GATE.true s.requires.0 (length L) s.requires.1
@@ -18,8 +18,8 @@ prefix_offer-requires c =
 pub returns-in_err-offer : goal.returns-in_err-offer
 unfolding opened
 returns-in_err-offer c =
-    let T = c.args.context.nodes.now in
-    let L = c.args.context.locals.now in
+    let T = c.args.context.now.nodes.now in
+    let L = c.args.context.now.locals.now in
     let k = c.args.k in
     let is = c.kind_of.ensures ∙ ap kind_of c.cell_at-cell.ensures in
     rw c.from_residual.ensures (rw c.in_err-offer.was at (ungated-shown T k c.kind_of.result is c.if-kind_of-ne-GATE.true L c.prefix_offer.result c.prefix_offer.ensures))
@@ -27,16 +27,16 @@ returns-in_err-offer c =
 pub returns-then-kind_of-ne-GATE : goal.returns-then-kind_of-ne-GATE
 unfolding opened
 returns-then-kind_of-ne-GATE c =
-    let T = c.args.context.nodes.now in
-    let L = c.args.context.locals.now in
+    let T = c.args.context.now.nodes.now in
+    let L = c.args.context.now.locals.now in
     let k = c.args.k in
     let is = c.kind_of.ensures ∙ ap kind_of c.cell_at-cell.ensures in
     rw c.in_ok-offer.was at (ungated-shown T k c.kind_of.result is c.if-kind_of-ne-GATE.true L c.prefix_offer.result c.prefix_offer.ensures)
 
 pub holds-requires : goal.holds-requires
 holds-requires c =
-    let T = c.args.context.nodes.now in
-    let L = c.args.context.locals.now in
+    let T = c.args.context.now.nodes.now in
+    let L = c.args.context.now.locals.now in
     let k = c.args.k in
     let is = c.kind_of.ensures ∙ ap kind_of c.cell_at-cell.ensures in
     let e = c.left_of.ensures ∙ ap left_of c.cell_at-cell.ensures in
@@ -45,8 +45,8 @@ holds-requires c =
 
 pub returns-in_err-open : goal.returns-in_err-open
 returns-in_err-open c =
-    let T = c.args.context.nodes.now in
-    let L = c.args.context.locals.now in
+    let T = c.args.context.now.nodes.now in
+    let L = c.args.context.now.locals.now in
     let k = c.args.k in
     let is = c.kind_of.ensures ∙ ap kind_of c.cell_at-cell.ensures in
     let e = c.left_of.ensures ∙ ap left_of c.cell_at-cell.ensures in
@@ -54,8 +54,8 @@ returns-in_err-open c =
 
 pub returns-then-not-open : goal.returns-then-not-open
 returns-then-not-open c =
-    let T = c.args.context.nodes.now in
-    let L = c.args.context.locals.now in
+    let T = c.args.context.now.nodes.now in
+    let L = c.args.context.now.locals.now in
     let k = c.args.k in
     let is = c.kind_of.ensures ∙ ap kind_of c.cell_at-cell.ensures in
     let e = c.left_of.ensures ∙ ap left_of c.cell_at-cell.ensures in
@@ -63,8 +63,8 @@ returns-then-not-open c =
 
 pub overflow_sub-k : goal.overflow_sub-k
 overflow_sub-k c =
-    let T = c.args.context.nodes.now in
-    let L = c.args.context.locals.now in
+    let T = c.args.context.now.nodes.now in
+    let L = c.args.context.now.locals.now in
     let k = c.args.k in
     let is = c.kind_of.ensures ∙ ap kind_of c.cell_at-cell.ensures in
     let f = gated-parts T k c.kind_of.result is c.if-kind_of-ne-GATE.false c.requires.0 (length L) c.requires.1 in
@@ -72,8 +72,8 @@ overflow_sub-k c =
 
 pub prefix_offer-requires-2 : goal.prefix_offer-requires-2
 prefix_offer-requires-2 c =
-    let T = c.args.context.nodes.now in
-    let L = c.args.context.locals.now in
+    let T = c.args.context.now.nodes.now in
+    let L = c.args.context.now.locals.now in
     let k = c.args.k in
     let is = c.kind_of.ensures ∙ ap kind_of c.cell_at-cell.ensures in
     let f = gated-parts T k c.kind_of.result is c.if-kind_of-ne-GATE.false c.requires.0 (length L) c.requires.1 in
@@ -82,8 +82,8 @@ prefix_offer-requires-2 c =
 pub returns-in_err-offer-2 : goal.returns-in_err-offer-2
 unfolding opened
 returns-in_err-offer-2 c =
-    let T = c.args.context.nodes.now in
-    let L = c.args.context.locals.now in
+    let T = c.args.context.now.nodes.now in
+    let L = c.args.context.now.locals.now in
     let k = c.args.k in
     let is = c.kind_of.ensures ∙ ap kind_of c.cell_at-cell.ensures in
     let e = c.left_of.ensures ∙ ap left_of c.cell_at-cell.ensures in
@@ -92,8 +92,8 @@ returns-in_err-offer-2 c =
 pub returns : goal.returns
 unfolding opened
 returns c =
-    let T = c.args.context.nodes.now in
-    let L = c.args.context.locals.now in
+    let T = c.args.context.now.nodes.now in
+    let L = c.args.context.now.locals.now in
     let k = c.args.k in
     let is = c.kind_of.ensures ∙ ap kind_of c.cell_at-cell.ensures in
     let e = c.left_of.ensures ∙ ap left_of c.cell_at-cell.ensures in

@@ -12,8 +12,8 @@ use Rattle.eval.proofs.offer.set_of.Goals as goal
 
 pub eval_node-requires : goal.eval_node-requires
 eval_node-requires c =
-    let T = c.args.context.nodes.now in
-    let L = c.args.context.locals.now in
+    let T = c.args.context.now.nodes.now in
+    let L = c.args.context.now.locals.now in
     let k = c.args.k in
     let is = c.kind_of-kind.ensures ∙ ap kind_of c.cell_at-cell.ensures in
     single-part T k c.kind_of-kind.result is (length L) c.if-kind-lt-RANGE.true c.requires
@@ -21,30 +21,30 @@ eval_node-requires c =
 pub returns-in_err-x : goal.returns-in_err-x
 unfolding range_ends
 returns-in_err-x c s h =
-    let T = c.args.context.nodes.now in
-    let L = c.args.context.locals.now in
+    let T = c.args.context.now.nodes.now in
+    let L = c.args.context.now.locals.now in
     let k = c.args.k in
     let is = c.kind_of-kind.ensures ∙ ap kind_of c.cell_at-cell.ensures in
     let x = c.eval_node.result in
     let w = c.eval_node.ensures in
-    rw c.from_residual.ensures (rw c.in_err-x.was at (single-shown T k c.kind_of-kind.result is L x c.if-kind-lt-RANGE.true w (worth-sound T L (length L) k x c.args.context.in_range (single-part T k c.kind_of-kind.result is (length L) c.if-kind-lt-RANGE.true c.requires) w) s h))
+    rw c.from_residual.ensures (rw c.in_err-x.was at (single-shown T k c.kind_of-kind.result is L x c.if-kind-lt-RANGE.true w (worth-sound T L (length L) k x c.args.context.now.in_range (single-part T k c.kind_of-kind.result is (length L) c.if-kind-lt-RANGE.true c.requires) w) s h))
 
 pub returns-then-kind-lt-RANGE : goal.returns-then-kind-lt-RANGE
 unfolding range_ends
 returns-then-kind-lt-RANGE c s h =
-    let T = c.args.context.nodes.now in
-    let L = c.args.context.locals.now in
+    let T = c.args.context.now.nodes.now in
+    let L = c.args.context.now.locals.now in
     let k = c.args.k in
     let is = c.kind_of-kind.ensures ∙ ap kind_of c.cell_at-cell.ensures in
     let x = c.eval_node.result in
     let w = c.eval_node.ensures in
     let d = back c.in_ok-x.x (omega arith) in
-    rw d (rw c.in_ok-x.was at (single-shown T k c.kind_of-kind.result is L x c.if-kind-lt-RANGE.true w (worth-sound T L (length L) k x c.args.context.in_range (single-part T k c.kind_of-kind.result is (length L) c.if-kind-lt-RANGE.true c.requires) w) s h))
+    rw d (rw c.in_ok-x.was at (single-shown T k c.kind_of-kind.result is L x c.if-kind-lt-RANGE.true w (worth-sound T L (length L) k x c.args.context.now.in_range (single-part T k c.kind_of-kind.result is (length L) c.if-kind-lt-RANGE.true c.requires) w) s h))
 
 pub eval_node-requires-then-kind-eq-RANGE : goal.eval_node-requires-then-kind-eq-RANGE
 eval_node-requires-then-kind-eq-RANGE c =
-    let T = c.args.context.nodes.now in
-    let L = c.args.context.locals.now in
+    let T = c.args.context.now.nodes.now in
+    let L = c.args.context.now.locals.now in
     let k = c.args.k in
     let is = c.kind_of-kind.ensures ∙ ap kind_of c.cell_at-cell.ensures in
     let e = c.left_of.ensures ∙ ap left_of c.cell_at-cell.ensures in
@@ -53,8 +53,8 @@ eval_node-requires-then-kind-eq-RANGE c =
 
 pub returns-in_err-x-2 : goal.returns-in_err-x-2
 returns-in_err-x-2 c s h =
-    let T = c.args.context.nodes.now in
-    let L = c.args.context.locals.now in
+    let T = c.args.context.now.nodes.now in
+    let L = c.args.context.now.locals.now in
     let k = c.args.k in
     let is = c.kind_of-kind.ensures ∙ ap kind_of c.cell_at-cell.ensures in
     let e = c.left_of.ensures ∙ ap left_of c.cell_at-cell.ensures in
@@ -62,8 +62,8 @@ returns-in_err-x-2 c s h =
 
 pub overflow_sub-k : goal.overflow_sub-k
 overflow_sub-k c =
-    let T = c.args.context.nodes.now in
-    let L = c.args.context.locals.now in
+    let T = c.args.context.now.nodes.now in
+    let L = c.args.context.now.locals.now in
     let k = c.args.k in
     let is = c.kind_of-kind.ensures ∙ ap kind_of c.cell_at-cell.ensures in
     let f = range-parts T k c.kind_of-kind.result is (length L) c.if-kind-eq-RANGE.true c.requires in
@@ -71,8 +71,8 @@ overflow_sub-k c =
 
 pub eval_node-requires-then-kind-eq-RANGE-2 : goal.eval_node-requires-then-kind-eq-RANGE-2
 eval_node-requires-then-kind-eq-RANGE-2 c =
-    let T = c.args.context.nodes.now in
-    let L = c.args.context.locals.now in
+    let T = c.args.context.now.nodes.now in
+    let L = c.args.context.now.locals.now in
     let k = c.args.k in
     let is = c.kind_of-kind.ensures ∙ ap kind_of c.cell_at-cell.ensures in
     let f = range-parts T k c.kind_of-kind.result is (length L) c.if-kind-eq-RANGE.true c.requires in
@@ -81,21 +81,21 @@ eval_node-requires-then-kind-eq-RANGE-2 c =
 pub returns-in_err-y : goal.returns-in_err-y
 unfolding range_ends
 returns-in_err-y c s h =
-    let T = c.args.context.nodes.now in
-    let L = c.args.context.locals.now in
+    let T = c.args.context.now.nodes.now in
+    let L = c.args.context.now.locals.now in
     let k = c.args.k in
     let is = c.kind_of-kind.ensures ∙ ap kind_of c.cell_at-cell.ensures in
     let e = c.left_of.ensures ∙ ap left_of c.cell_at-cell.ensures in
     let f = range-parts T k c.kind_of-kind.result is (length L) c.if-kind-eq-RANGE.true c.requires in
     let y = c.eval_node-then-kind-eq-RANGE-2.result in
     let w = c.eval_node-then-kind-eq-RANGE-2.ensures in
-    rw c.from_residual-in_err-y.ensures (rw (c.in_ok-x-2.was, c.in_err-y.was) at (range-shown T k c.kind_of-kind.result is L c.eval_node-then-kind-eq-RANGE.result y c.if-kind-eq-RANGE.true (rw e at c.eval_node-then-kind-eq-RANGE.ensures) w (worth-sound T L (length L) (k - 1) y c.args.context.in_range f.2 w) s h))
+    rw c.from_residual-in_err-y.ensures (rw (c.in_ok-x-2.was, c.in_err-y.was) at (range-shown T k c.kind_of-kind.result is L c.eval_node-then-kind-eq-RANGE.result y c.if-kind-eq-RANGE.true (rw e at c.eval_node-then-kind-eq-RANGE.ensures) w (worth-sound T L (length L) (k - 1) y c.args.context.now.in_range f.2 w) s h))
 
 pub returns-then-kind-eq-RANGE : goal.returns-then-kind-eq-RANGE
 unfolding range_ends
 returns-then-kind-eq-RANGE c s h =
-    let T = c.args.context.nodes.now in
-    let L = c.args.context.locals.now in
+    let T = c.args.context.now.nodes.now in
+    let L = c.args.context.now.locals.now in
     let k = c.args.k in
     let is = c.kind_of-kind.ensures ∙ ap kind_of c.cell_at-cell.ensures in
     let e = c.left_of.ensures ∙ ap left_of c.cell_at-cell.ensures in
@@ -104,12 +104,12 @@ returns-then-kind-eq-RANGE c s h =
     let w = c.eval_node-then-kind-eq-RANGE-2.ensures in
     let d = back c.in_ok-x-2.x (omega arith) in
     let g = back c.in_ok-y.y (omega arith) in
-    rw (d, g) (rw (c.in_ok-x-2.was, c.in_ok-y.was) at (range-shown T k c.kind_of-kind.result is L c.eval_node-then-kind-eq-RANGE.result y c.if-kind-eq-RANGE.true (rw e at c.eval_node-then-kind-eq-RANGE.ensures) w (worth-sound T L (length L) (k - 1) y c.args.context.in_range f.2 w) s h))
+    rw (d, g) (rw (c.in_ok-x-2.was, c.in_ok-y.was) at (range-shown T k c.kind_of-kind.result is L c.eval_node-then-kind-eq-RANGE.result y c.if-kind-eq-RANGE.true (rw e at c.eval_node-then-kind-eq-RANGE.ensures) w (worth-sound T L (length L) (k - 1) y c.args.context.now.in_range f.2 w) s h))
 
 pub returns : goal.returns
 returns c =
-    let T = c.args.context.nodes.now in
-    let L = c.args.context.locals.now in
+    let T = c.args.context.now.nodes.now in
+    let L = c.args.context.now.locals.now in
     let k = c.args.k in
     let is = c.kind_of-kind.ensures ∙ ap kind_of c.cell_at-cell.ensures in
     rw c.then_some.ensures (root-tried T k c.kind_of-kind.result is L c.ends_known.result c.ends_known.ensures c.requires)

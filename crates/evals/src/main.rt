@@ -75,7 +75,7 @@ fn in_rest(x: i64, y: i64, z: i64, v: i64) -> bool
     eval::in_set(&context, 4, v)
 }
 
-// The kind of what [i>0] -> {c![y/i],1} offers; 0 and no Option, as the line prints it.
+// The kind of what [i>0] -> {c![y/i],1} offers; 0 behind a false gate, 1 where a part lacks a value: numbers and no Option, as the line prints them.
 fn gated(i: i64, y: i64) -> u8
     requires { (InRange i) × (InRange y) }
 {
@@ -98,7 +98,8 @@ fn gated(i: i64, y: i64) -> u8
     };
     match offer::offer_of(&context, 10) {
         Some(Some(o)) => o.kind,
-        _ => 0,
+        Some(None) => 0,
+        None => 1,
     }
 }
 

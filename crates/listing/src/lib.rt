@@ -309,8 +309,8 @@ struct Asking<'a> {
 
 // Whether the values of the lit pair q match what a branch asks for.
 fn pair_matches(asking: Asking, q: usize) -> bool
-    requires { ((w : offers.Query) × ShowsQuery asking.context.now.nodes.now asking.context.now.locals.now asking.acting.offer w) × ((t : List ℕ) × (roots : List ℕ) × (scopes : List ℕ) × (m : Resolved.Model) × (s : State) × World t roots scopes asking.state.now m s) × (q < pair_count asking.state.now) }
-    ensures { (w : offers.Query) (t roots scopes : List ℕ) (m : Resolved.Model) (s : State) (x : offers.Pair) → ShowsQuery asking.entry.context.now.nodes.now asking.entry.context.now.locals.now asking.entry.acting.offer w → World t roots scopes asking.entry.state.now m s → get_elem? s.pairs q ≡ some x → result ≡ all_within w.sets x.values }
+    requires { ((w : offers.Query) × ShowsQuery asking.context.nodes.now asking.context.locals.now asking.acting.offer w) × ((t : List ℕ) × (roots : List ℕ) × (scopes : List ℕ) × (m : Resolved.Model) × (s : State) × World t roots scopes asking.state.now m s) × (q < pair_count asking.state.now) }
+    ensures { (w : offers.Query) (t roots scopes : List ℕ) (m : Resolved.Model) (s : State) (x : offers.Pair) → ShowsQuery asking.entry.context.nodes.now asking.entry.context.locals.now asking.entry.acting.offer w → World t roots scopes asking.entry.state.now m s → get_elem? s.pairs q ≡ some x → result ≡ all_within w.sets x.values }
 {
     let row = state::pair_row(asking.state, q);
     let count = row[Layout::CHANNEL] as usize;
@@ -365,8 +365,8 @@ fn run_of(state: &[i64], o: Offer) -> Run
 
 // Whether any lit pair of a run matches what a branch asks for.
 fn any_match(asking: Asking, run: Run) -> bool
-    requires { ((w : offers.Query) × ShowsQuery asking.context.now.nodes.now asking.context.now.locals.now asking.acting.offer w) × ((t : List ℕ) × (roots : List ℕ) × (scopes : List ℕ) × (m : Resolved.Model) × (s : State) × World t roots scopes asking.state.now m s) × (run.to ≤ pair_count asking.state.now) }
-    ensures { (w : offers.Query) (t roots scopes : List ℕ) (m : Resolved.Model) (s : State) → ShowsQuery asking.entry.context.now.nodes.now asking.entry.context.now.locals.now asking.entry.acting.offer w → World t roots scopes asking.entry.state.now m s → RunIs s.pairs w run.from run.to → result ≡ any_match w s.pairs }
+    requires { ((w : offers.Query) × ShowsQuery asking.context.nodes.now asking.context.locals.now asking.acting.offer w) × ((t : List ℕ) × (roots : List ℕ) × (scopes : List ℕ) × (m : Resolved.Model) × (s : State) × World t roots scopes asking.state.now m s) × (run.to ≤ pair_count asking.state.now) }
+    ensures { (w : offers.Query) (t roots scopes : List ℕ) (m : Resolved.Model) (s : State) → ShowsQuery asking.entry.context.nodes.now asking.entry.context.locals.now asking.entry.acting.offer w → World t roots scopes asking.entry.state.now m s → RunIs s.pairs w run.from run.to → result ≡ any_match w s.pairs }
 {
     // A `for`: by `any`, what its closure tells of each pair couldn't be turned into the test of that pair, and that the answer is `any_match` stayed open.
     for q in run.from..run.to {
@@ -379,9 +379,9 @@ fn any_match(asking: Asking, run: Run) -> bool
 
 // The entry of a receive with names for the lit pair q, if it matches.
 fn list_pair(asking: Asking, q: usize, filling: &mut Filling)
-    requires { ((w : offers.Query) × ShowsQuery asking.context.now.nodes.now asking.context.now.locals.now asking.acting.offer w) × ((t : List ℕ) × (roots : List ℕ) × (scopes : List ℕ) × (m : Resolved.Model) × (s : State) × World t roots scopes asking.state.now m s) × (q < pair_count asking.state.now) }
+    requires { ((w : offers.Query) × ShowsQuery asking.context.nodes.now asking.context.locals.now asking.acting.offer w) × ((t : List ℕ) × (roots : List ℕ) × (scopes : List ℕ) × (m : Resolved.Model) × (s : State) × World t roots scopes asking.state.now m s) × (q < pair_count asking.state.now) }
     ensures same { filling.new.listing.ghost_name ≡ filling.old.listing.ghost_name }
-    ensures added { (w : offers.Query) (t roots scopes : List ℕ) (m : Resolved.Model) (s : State) (x : offers.Pair) → ShowsQuery asking.entry.context.now.nodes.now asking.entry.context.now.locals.now asking.entry.acting.offer w → World t roots scopes asking.entry.state.now m s → get_elem? s.pairs q ≡ some x → w.channel ≡ x.channel → Adds (bound_at w asking.entry.acting.place asking.entry.acting.branch asking.entry.acting.offer.rate q x) filling.old.listing.now filling.old.count filling.new.listing.now filling.new.count }
+    ensures added { (w : offers.Query) (t roots scopes : List ℕ) (m : Resolved.Model) (s : State) (x : offers.Pair) → ShowsQuery asking.entry.context.nodes.now asking.entry.context.locals.now asking.entry.acting.offer w → World t roots scopes asking.entry.state.now m s → get_elem? s.pairs q ≡ some x → w.channel ≡ x.channel → Adds (bound_at w asking.entry.acting.place asking.entry.acting.branch asking.entry.acting.offer.rate q x) filling.old.listing.now filling.old.count filling.new.listing.now filling.new.count }
 {
     if !pair_matches(asking, q) {
         return;
@@ -399,9 +399,9 @@ fn list_pair(asking: Asking, q: usize, filling: &mut Filling)
 
 // The entries of a receive with names: one for each lit pair of a run that matches.
 fn list_bound(asking: Asking, run: Run, filling: &mut Filling)
-    requires { ((w : offers.Query) × ShowsQuery asking.context.now.nodes.now asking.context.now.locals.now asking.acting.offer w) × ((t : List ℕ) × (roots : List ℕ) × (scopes : List ℕ) × (m : Resolved.Model) × (s : State) × World t roots scopes asking.state.now m s) × (run.to ≤ pair_count asking.state.now) }
+    requires { ((w : offers.Query) × ShowsQuery asking.context.nodes.now asking.context.locals.now asking.acting.offer w) × ((t : List ℕ) × (roots : List ℕ) × (scopes : List ℕ) × (m : Resolved.Model) × (s : State) × World t roots scopes asking.state.now m s) × (run.to ≤ pair_count asking.state.now) }
     ensures same { filling.new.listing.ghost_name ≡ filling.old.listing.ghost_name }
-    ensures added { (w : offers.Query) (t roots scopes : List ℕ) (m : Resolved.Model) (s : State) → ShowsQuery asking.entry.context.now.nodes.now asking.entry.context.now.locals.now asking.entry.acting.offer w → World t roots scopes asking.entry.state.now m s → RunIs s.pairs w run.from run.to → Adds (gather (bound_at w asking.entry.acting.place asking.entry.acting.branch asking.entry.acting.offer.rate) s.pairs) filling.old.listing.now filling.old.count filling.new.listing.now filling.new.count }
+    ensures added { (w : offers.Query) (t roots scopes : List ℕ) (m : Resolved.Model) (s : State) → ShowsQuery asking.entry.context.nodes.now asking.entry.context.locals.now asking.entry.acting.offer w → World t roots scopes asking.entry.state.now m s → RunIs s.pairs w run.from run.to → Adds (gather (bound_at w asking.entry.acting.place asking.entry.acting.branch asking.entry.acting.offer.rate) s.pairs) filling.old.listing.now filling.old.count filling.new.listing.now filling.new.count }
 {
     for q in run.from..run.to {
         list_pair(asking, q, filling);

@@ -3,6 +3,7 @@ pub mod Offers
 pub mod Tables
 pub mod Continue
 pub mod Pairs
+pub mod Place
 pub mod Moves
 pub mod Entry
 pub mod Listed

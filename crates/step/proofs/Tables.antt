@@ -175,9 +175,9 @@ module _ {t roots scopes : List ℕ} {zs : List ℤ} {i j : ℕ} {m : Resolved.M
   guard-here own o e q =
       guard-shown (subst (λ (x : Option offers.Guard). ShowsOffer t p.locals x o) h.evaluates (subst (λ (x : List ℤ). ShowsOffer t x (eval_branch x b) o) e q))
 
-  pub entered : (us bound : RustOption Values) (own : List ℤ) (r : Entered)
-      → own ≡ p.locals → r.locals.items ≡ own ++ values_of bound → values_of bound ≡ on_action [] (bound_by (values_of us)) g
-      → ShowsGuard t p.locals g r.offer → ShowsNext t b.next r.next → Enters t p b g (values_of us) r
+  pub entered : (us bound : RustOption Values) (own ls : List ℤ) (r : Entered)
+      → own ≡ p.locals → ls ≡ own ++ values_of bound → values_of bound ≡ on_action [] (bound_by (values_of us)) g
+      → ShowsGuard t p.locals g r.offer → ShowsNext t b.next r.next → Enters t p b g (values_of us) ls r
   unfolding locals_of
-  entered us bound own r e f v o n =
+  entered us bound own ls r e f v o n =
       record { locals = f ∙ (ap (λ (x : List ℤ). x ++ values_of bound) e ∙ ap (λ (x : List ℤ). p.locals ++ x) v); next = n; offer = o }

@@ -80,9 +80,9 @@ bound_of (Some r) vs = cond (eqb r.kind node.bind || eqb r.kind node.hand_bind) 
 unfoldable pub locals_of : Process → List ℤ → offers.Guard → List ℤ
 locals_of p vs g = p.locals ++ on_action [] (bound_by vs) g
 
--- what is shown of the process that acts: its locals with the names bound, its continuation and its offer
-pub record Enters (t : List ℕ) (p : Process) (b : Resolved.Branch) (g : offers.Guard) (vs : List ℤ) (r : Entered) : Type 0 where
-  pub locals : r.locals.items ≡ locals_of p vs g
+-- what is shown of the process that acts: its locals ls with the names bound, its continuation and its offer
+pub record Enters (t : List ℕ) (p : Process) (b : Resolved.Branch) (g : offers.Guard) (vs ls : List ℤ) (r : Entered) : Type 0 where
+  pub locals : ls ≡ locals_of p vs g
   pub next : ShowsNext t b.next r.next
   pub offer : ShowsGuard t p.locals g r.offer
 

@@ -24,7 +24,6 @@ ghost use Rattle.eval.specs.Shown.{ShowsPair, ShowsGuard};
 ghost use Rattle.step.specs.Enter as Enter;
 ghost use Rattle.step.specs.Entries.{Row};
 
-use arrayvec::ArrayVec;
 use eval::offer::Offer;
 use eval::{Context, Values};
 use listing::Entry;
@@ -65,13 +64,31 @@ fn first_values(count: usize, first: i64, second: i64) -> Option<Values>
     }
 }
 
-// A process's locals with two names more.
-pub type Locals = ArrayVec<i64, { Room::LOCALS }>;
+// A process's locals with two names more: the first `count` of the numbers.
+#[derive(Clone, Copy)]
+pub struct Locals {
+    pub numbers: [i64; Room::LOCALS],
+    pub count: usize,
+    ghost few: { count ≤ local_limit + 2 },
+}
 
-// What a process that acts enters: its locals with the names bound, its continuation and what it offers, nothing behind a false gate.
-#[derive(Drop)]
+impl Locals {
+    pub const NONE: Locals = Locals {
+        numbers: [0; Room::LOCALS],
+        count: 0,
+    };
+
+    // The numbers in use.
+    fn held(&self) -> &[i64]
+        ensures { result.now ≡ take self.now.count self.now.numbers }
+    {
+        &self.numbers[..self.count]
+    }
+}
+
+// What a process that acts enters beside its locals: its continuation and what it offers, nothing behind a false gate.
+#[derive(Clone, Copy)]
 pub struct Entered {
-    pub locals: Locals,
     pub next: Option<usize>,
     pub offer: Option<Offer>,
 }
@@ -153,22 +170,27 @@ fn bound_by(offer: Option<Offer>, values: Option<Values>) -> Option<Values>
     }
 }
 
-// A process's locals with the bound values after them.
-fn locals_with(own: &[i64], bound: Option<Values>) -> Locals
+// Puts a process's locals, and the bound values after them.
+fn put_locals(own: &[i64], bound: Option<Values>, locals: &mut Locals)
     requires { length own.now ≤ local_limit }
-    ensures { result.items ≡ own.now ++ Enter.values_of bound }
+    ensures { take locals.new.count locals.new.numbers ≡ own.now ++ Enter.values_of bound }
 {
-    let mut locals = ArrayVec::new();
-    locals.try_extend_from_slice(own).unwrap();
+    let n = own.len();
+    for i in 0..n {
+        locals.numbers[i] = own[i];
+    }
     match bound {
-        None => {}
-        Some(Values::One(first)) => locals.push(first),
+        None => locals.count = n,
+        Some(Values::One(first)) => {
+            locals.numbers[n] = first;
+            locals.count = n + 1;
+        }
         Some(Values::Two(first, second)) => {
-            locals.push(first);
-            locals.push(second);
+            locals.numbers[n] = first;
+            locals.numbers[n + 1] = second;
+            locals.count = n + 2;
         }
     }
-    locals
 }
 
 // Where a process's branch is found: the root of the branch, and how many locals the process has.
@@ -203,10 +225,17 @@ pub fn wait_token(tables: Tables, state: &[i64], i: usize, j: usize) -> usize
     tree::token_of(action)
 }
 
-// What the process at place i enters by branch j, whose names take the values.
-fn enter(tables: Tables, state: &[i64], i: usize, j: usize, values: Option<Values>) -> Entered
+// What the process at place i enters by branch j, whose names take the values. Its locals are put into those lent.
+fn enter(
+    tables: Tables,
+    state: &[i64],
+    i: usize,
+    j: usize,
+    values: Option<Values>,
+    locals: &mut Locals,
+) -> Entered
     requires { Enter.Acting tables.nodes.now tables.roots.now tables.scopes.now state.now i j }
-    ensures { (m : Resolved.Model) (s : State) (p : Process) (b : Resolved.Branch) (g : Guard) → Enter.Acts tables.entry.nodes.now tables.entry.roots.now tables.entry.scopes.now state.now i j m s p b g → Enter.Enters tables.entry.nodes.now p b g (Enter.values_of values) result }
+    ensures { (m : Resolved.Model) (s : State) (p : Process) (b : Resolved.Branch) (g : Guard) → Enter.Acts tables.entry.nodes.now tables.entry.roots.now tables.entry.scopes.now state.now i j m s p b g → Enter.Enters tables.entry.nodes.now p b g (Enter.values_of values) (take locals.new.count locals.new.numbers) result }
 {
     let found = find_branch(tables, state, i, j);
     let root = found.root;
@@ -215,14 +244,13 @@ fn enter(tables: Tables, state: &[i64], i: usize, j: usize, values: Option<Value
         nodes: tables.nodes,
         locals: own,
     };
-    let offer = eval::offer::offer_of(&context, root).flatten();
-    let locals = locals_with(own, bound_by(offer, values));
+    let offer = match eval::offer::offer_of(&context, root) {
+        Some(offer) => offer,
+        None => None,
+    };
+    put_locals(own, bound_by(offer, values), locals);
     let next = eval::next::continuation_of(tables.nodes, root);
-    Entered {
-        locals,
-        next,
-        offer,
-    }
+    Entered { next, offer }
 }
 
 // 17: whether all arguments of a continuation have values.
@@ -399,10 +427,18 @@ fn take_alone(moving: &mut Moving, entry: Entry) -> Result<(), Refusal>
 {
     let state = &mut *moving.state;
     let values = pair_values(&state[..], entry.pair);
-    let entered = enter(moving.tables, &state[..], entry.place, entry.branch, values);
+    let mut locals = Locals::NONE;
+    let entered = enter(
+        moving.tables,
+        &state[..],
+        entry.place,
+        entry.branch,
+        values,
+        &mut locals,
+    );
     let successor = Successor {
         place: entry.place,
-        locals: &entered.locals,
+        locals: locals.held(),
         next: entered.next,
     };
     move_alone(moving, successor, entered.offer)
@@ -415,7 +451,16 @@ fn take_handshake(moving: &mut Moving, entry: Entry) -> Result<(), Refusal>
     ensures answers { (m : Resolved.Model) (s : State) (x y : Enter.Side) → Enter.HandEntry moving.old entry.place entry.branch entry.partner entry.pbranch m s x y → Enter.Answers (arguments_given (Enter.sent x) x.branch.next && arguments_given (Enter.received x y) y.branch.next) s (Enter.both_entering m s entry.place (Enter.sent x) x.branch.next entry.partner (Enter.received x y) y.branch.next) result moving.new.state.now }
 {
     let state = &mut *moving.state;
-    let sender = enter(moving.tables, &state[..], entry.place, entry.branch, None);
+    let mut locals = Locals::NONE;
+    let mut others = Locals::NONE;
+    let sender = enter(
+        moving.tables,
+        &state[..],
+        entry.place,
+        entry.branch,
+        None,
+        &mut locals,
+    );
     let values = sent_values(sender.offer);
     let receiver = enter(
         moving.tables,
@@ -423,15 +468,16 @@ fn take_handshake(moving: &mut Moving, entry: Entry) -> Result<(), Refusal>
         entry.partner,
         entry.pbranch,
         values,
+        &mut others,
     );
     let x = Successor {
         place: entry.place,
-        locals: &sender.locals,
+        locals: locals.held(),
         next: sender.next,
     };
     let y = Successor {
         place: entry.partner,
-        locals: &receiver.locals,
+        locals: others.held(),
         next: receiver.next,
     };
     move_both(moving, x, y)

@@ -1,15 +1,17 @@
 -- What is found, offered and bound, put together by the law of what is entered.
-use mathlib.Core.Path.{ap, ◌∙◌}
+use mathlib.Core.Path.{◌≡◌, refl, ap, ◌∙◌}
 use mathlib.Core.List.{List}
 use native.Mathlib.Omega.{arith}
 use lib.IntN.{ℤ}
 use lib.ListN.{length}
+use Rattle.std.specs.Option.{option_flatten}
 use Rattle.eval.specs.Shown.{ShowsGuard}
 use Rattle.state.proofs.Read.{few-processes}
 use Rattle.step.proofs.Tables.{passed, long, inside, few-own, own-are, own-values, offer-asks, guard-here, entered}
 use Rattle.step.specs.Enter.{values_of}
 use Rattle.step.proofs.Offers.{bound-shown}
 use Rattle.step.proofs.enter.Goals as goal
+use Rattle.step.proofs.enter.Goals.{in-Some, in-None}
 
 pub find_branch-found-requires : goal.find_branch-found-requires
 find_branch-found-requires c =
@@ -31,8 +33,8 @@ offer_of-requires c =
     let d = c.find_branch-found.ensures.0 c.requires.model c.requires.state c.requires.process c.requires.branch c.requires.guard a in
     offer-asks a _ (own-are a _ d.0 _ c.locals_at-own.ensures) _ d.1
 
-pub locals_with-locals-requires : goal.locals_with-locals-requires
-locals_with-locals-requires c =
+pub put_locals-requires : goal.put_locals-requires
+put_locals-requires c =
     let a = c.requires.acts in
     let d = c.find_branch-found.ensures.0 c.requires.model c.requires.state c.requires.process c.requires.branch c.requires.guard a in
     let e = own-are a _ d.0 _ c.locals_at-own.ensures in
@@ -49,5 +51,7 @@ returns c =
     λ m s p b g h.
     let d = c.find_branch-found.ensures.0 m s p b g h in
     let e = own-are h _ d.0 _ c.locals_at-own.ensures in
-    let o : ShowsGuard c.args.tables.nodes.now p.locals g c.flatten-offer.result = rw c.flatten-offer.ensures (guard-here h _ c.offer_of.result e (c.offer_of.ensures b d.1)) in
-    entered h c.args.values c.bound_by.result _ _ e c.locals_with-locals.ensures (ap values_of c.bound_by.ensures ∙ bound-shown c.args.tables.nodes.now p.locals c.flatten-offer.result c.args.values g o) o (c.continuation_of-next.ensures b d.1)
+    let f : c.match-offer_of.offer ≡ option_flatten c.offer_of.result =
+    elim c.match-offer_of.branch [ in-Some w ↦ rw (w.in-Some.is, w.offer-is) refl | in-None w ↦ rw (w.in-None.is, w.offer-is) refl ] in
+    let o : ShowsGuard c.args.tables.nodes.now p.locals g c.match-offer_of.offer = rw f (guard-here h _ c.offer_of.result e (c.offer_of.ensures b d.1)) in
+    entered h c.args.values c.bound_by.result _ _ _ e c.put_locals.ensures (ap values_of c.bound_by.ensures ∙ bound-shown c.args.tables.nodes.now p.locals c.match-offer_of.offer c.args.values g o) o (c.continuation_of-next.ensures b d.1)

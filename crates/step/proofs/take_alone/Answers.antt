@@ -28,11 +28,11 @@ move_alone-requires c =
     let h = c.requires.5 in
     let w = c.enter-entered.ensures m s p b g (acts-of h) in
     let v = c.pair_values-values.ensures m s h.lent.stands in
-    rw c.deref.ensures.0 (m, s, b.next, _, alone_of h _ v _ w)
+    rw c.held.ensures (m, s, b.next, _, alone_of h _ v _ _ w)
 
 pub returns-clause-answers : goal.returns-clause-answers
 returns-clause-answers c =
     λ m s p b g h.
     let w = c.enter-entered.ensures m s p b g (acts-of h) in
     let v = c.pair_values-values.ensures m s h.lent.stands in
-    alone-answers h _ v _ w _ _ ((rw c.deref.ensures.0 at c.move_alone.ensures.answers m s b.next (on_action unchanged change_of g)) (alone_of h _ v _ w))
+    alone-answers h _ v _ _ w _ _ ((rw c.held.ensures at c.move_alone.ensures.answers m s b.next (on_action unchanged change_of g)) (alone_of h _ v _ _ w))

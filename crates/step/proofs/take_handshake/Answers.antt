@@ -43,7 +43,7 @@ move_both-requires c =
     let u = bare in
     let v = c.sent_values-values.ensures c.args.moving.now.tables.nodes.now x.process.locals x.guard w.offer in
     let e = c.enter-receiver.ensures m s y.process y.branch y.guard h.receiver in
-    rw (c.deref.ensures.0, c.deref-2.ensures.0) (m, s, x.branch.next, y.branch.next, meets-of h _ u _ w _ v _ e)
+    rw (c.held.ensures, c.held-2.ensures) (m, s, x.branch.next, y.branch.next, meets-of h _ u _ _ w _ v _ _ e)
 
 pub returns-clause-answers : goal.returns-clause-answers
 returns-clause-answers c =
@@ -52,4 +52,4 @@ returns-clause-answers c =
     let u = bare in
     let v = c.sent_values-values.ensures c.args.moving.now.tables.nodes.now x.process.locals x.guard w.offer in
     let e = c.enter-receiver.ensures m s y.process y.branch y.guard h.receiver in
-    meets-answers h _ u _ w _ v _ e _ _ ((rw (c.deref.ensures.0, c.deref-2.ensures.0) at c.move_both.ensures.answers m s x.branch.next y.branch.next) (meets-of h _ u _ w _ v _ e))
+    meets-answers h _ u _ _ w _ v _ _ e _ _ ((rw (c.held.ensures, c.held-2.ensures) at c.move_both.ensures.answers m s x.branch.next y.branch.next) (meets-of h _ u _ _ w _ v _ _ e))

@@ -1,4 +1,4 @@
-// A timed step over the tables of a model: question 11 and the listing, 15, then 16 to 19 and 23 to 25 by running's timed step.
+// A timed step over the tables of a model: question 11 and the listing, 15, then 16 to 19 and 23 to 25 by `running::take_single`.
 ghost use Rattle.std.specs.Prelude.{◌≡◌, List, ℕ, length};
 ghost use Rattle.std.proofs.Math.Option.{some};
 ghost use Rattle.model.specs.Resolved as Resolved;
@@ -39,7 +39,7 @@ pub fn step_waiting(
         waiting,
         clock,
     };
-    match running::take_timed(read, state, &mut fresh, listed, draw) {
+    match running::take_single(read, state, &mut fresh, listed, draw) {
         Ok((chosen, next)) => Ok((Told { listed, chosen }, next)),
         Err(refusal) => Err(Refusal::Step(refusal, listed)),
     }

@@ -21,11 +21,12 @@ use Rattle.rules.specs.Draw.{weights, total, chosen}
 use Rattle.machine.specs.State.{State, state_numbers}
 use Rattle.machine.specs.Machine.{listed_as, refusing, accepting, entry_arguments, entry_state, taken, drawn, refused_as, with_wait, steps_in}
 use Rattle.listing.specs.Buffer.{weights_in, chosen_answer, Chosen}
+use Rattle.step.specs.declared.Refusal as step
 use Rattle.step.specs.declared.Refusal.TheVariants.{Arguments, Processes, Pairs}
 use Rattle.step.specs.Enter.{verdict, state_of, Answers, Taken}
 use Rattle.step.specs.Entries.{Counted}
 use Rattle.step.proofs.Rows.{chose, chose_none}
-use Rattle.running.specs.declared.Refusal.TheVariants.{Draw}
+use Rattle.running.specs.declared.Refusal.TheVariants.{Draw, Step}
 use Rattle.running.specs.Taking.{Stepped, stepped_by, StepsTo}
 
 -- ---- the rest of a slice
@@ -77,6 +78,16 @@ module _ (m : Resolved.Model) (s : State) (es : List Entry) (c : ℕ) (i : Key) 
     pub unwaited : (l : Late) (w : Taken) → b ≡ Err l → v ≡ w → v ≡ verdict (entry_arguments m s i) (entry_state m s i) → zs ≡ state_numbers s → StepsTo (steps_in k ds s (taken m s es c i)) k (stepped_by w c (Err l)) zs
     unfolding ruled
     unwaited l w z u a h = rw (← u, ← z, a, is-B) (steps (Err l) zs (sym is-B ∙ z) h)
+
+  -- the entry is refused, whatever the waiting draws come to
+  module _ (v : Taken) (r : step.Refusal) (zs : List ℤ) (u : v ≡ Err r) (a : Answers (entry_arguments m s i) s (entry_state m s i) v zs) where
+    refused-by : (w : Brought) → B ≡ w → StepsTo (steps_in k ds s (taken m s es c i)) k (Err (Step r)) zs
+    unfolding stepped_by state_of
+    refused-by (Ok n) z = waited B (total (weights es)) v zs refl refl n (Err r) z u a
+    refused-by (Err l) z = unwaited B (total (weights es)) v zs refl refl l (Err r) z u a.is (rw u at a.numbers)
+
+    pub refused : StepsTo (steps_in k ds s (taken m s es c i)) k (Err (Step r)) zs
+    refused = refused-by B refl
 
 -- ---- 16, and the entry that the draw chooses
 module _ {t roots scopes : List ℕ} {root variables : ℕ} {zs : List ℤ} {l : List ℕ} {count sum : ℕ} {m : Resolved.Model} {s : State} {es : List Entry} (h : Counted t roots scopes root variables zs l count sum m s es) (above : 0 < sum) (k : Clock) (ds : List ℕ) (d : ℕ) where

@@ -206,7 +206,8 @@ fn take_waiting(
     }
 }
 
-// A timed step with a choosing draw, once the state is listed and its total above zero: 16 to 19, then 23 to 25. A run's steps and engine's timed step go through it.
+// A timed step with a choosing draw, once the state is listed and its total above zero: 16 to 19, then 23 to 25. A run's steps go through it: the waiting draws are
+// read before the entry is taken, so that a step that is accepted copies no state.
 pub fn take_timed(
     read: Stepping,
     state: &mut [i64],
@@ -219,6 +220,31 @@ pub fn take_timed(
 {
     let c = listed.choose(read.listing, draw).ok_or(Refusal::Draw)?;
     take_waiting(read, state, fresh, c, listed.total)
+}
+
+// The same for a call that makes this one step: the entry is taken before the waiting draws are read, so that a step that 17 to 19 refuse reads none. The state is
+// kept meanwhile, and put back where the wait is refused.
+pub fn take_single(
+    read: Stepping,
+    state: &mut [i64],
+    fresh: &mut [i64; Room::FRESH],
+    listed: Listed,
+    draw: u64,
+) -> Result<(usize, Clock), Refusal>
+    requires { ((m : Resolved.Model) × (s : State) × (es : List rules.Entry) × Counted read.tables.nodes.now read.tables.roots.now read.tables.scopes.now read.tables.root read.tables.variables state.old read.listing.now listed.count listed.total m s es) × (InRange read.clock) × (0 < listed.total) }
+    ensures { (m : Resolved.Model) (s : State) (es : List rules.Entry) → Counted read.entry.tables.nodes.now read.entry.tables.roots.now read.entry.tables.scopes.now read.entry.tables.root read.entry.tables.variables state.old read.entry.listing.now listed.count listed.total m s es → StepsTo (steps_in read.entry.clock read.entry.waiting.now s (drawn m s es draw)) read.entry.clock result state.new }
+{
+    let c = listed.choose(read.listing, draw).ok_or(Refusal::Draw)?;
+    let mut before = [0i64; Room::STATE];
+    before.copy_from_slice(&state[..]);
+    step::take_row(read.tables, state, fresh, read.listing, c)?;
+    match clock::bring(read.clock, read.waiting, listed.total) {
+        Ok(next) => Ok((c, next)),
+        Err(late) => {
+            state.copy_from_slice(&before);
+            Err(Refusal::Wait(late))
+        }
+    }
 }
 
 // Writes an event: the ticks, and entry c of the listing. A slice and a step: an array of the event's part would be an unwrap with its proof, for three lines.

@@ -22,8 +22,8 @@ returns-then-listed-eq0 c =
     let f = found _ _ _ _ _ _ _ m w c.args.state.now _ _ _ (rw c.in_ok-listed.was at (c.list_state.ensures m (tables-of _ _ _ _ _ _ _ m w))) in
     stepped-gives bs c.args.state.now c.args.clock c.args.waiting.now c.args.draw c.args.listing.now c.requires.3 f _ _ (weightless bs c.args.state.now c.args.clock c.args.waiting.now c.args.draw c.args.listing.now c.requires.3 f c.if-listed-eq0.true)
 
-pub take_timed-requires : goal.take_timed-requires
-take_timed-requires c =
+pub take_single-requires : goal.take_single-requires
+take_single-requires c =
     let m = c.requires.0.0 in
     let w = c.requires.0.1 in
     let f = found _ _ _ _ _ _ _ m w c.args.state.now _ _ _ (rw c.in_ok-listed.was at (c.list_state.ensures m (tables-of _ _ _ _ _ _ _ m w))) in
@@ -33,10 +33,10 @@ pub returns-in-Ok : goal.returns-in-Ok
 returns-in-Ok c =
     λ m bs w.
     let f = found _ _ _ _ _ _ _ m w c.args.state.now _ _ _ (rw c.in_ok-listed.was at (c.list_state.ensures m (tables-of _ _ _ _ _ _ _ m w))) in
-    stepped-gives bs c.args.state.now c.args.clock c.args.waiting.now c.args.draw c.args.listing.now c.requires.3 f _ _ (rw c.in-Ok.is at (c.take_timed.ensures m f.state f.entries f.counted))
+    stepped-gives bs c.args.state.now c.args.clock c.args.waiting.now c.args.draw c.args.listing.now c.requires.3 f _ _ (rw c.in-Ok.is at (c.take_single.ensures m f.state f.entries f.counted))
 
 pub returns-in-Err : goal.returns-in-Err
 returns-in-Err c =
     λ m bs w.
     let f = found _ _ _ _ _ _ _ m w c.args.state.now _ _ _ (rw c.in_ok-listed.was at (c.list_state.ensures m (tables-of _ _ _ _ _ _ _ m w))) in
-    stepped-gives bs c.args.state.now c.args.clock c.args.waiting.now c.args.draw c.args.listing.now c.requires.3 f _ _ (rw c.in-Err.is at (c.take_timed.ensures m f.state f.entries f.counted))
+    stepped-gives bs c.args.state.now c.args.clock c.args.waiting.now c.args.draw c.args.listing.now c.requires.3 f _ _ (rw c.in-Err.is at (c.take_single.ensures m f.state f.entries f.counted))

@@ -277,7 +277,7 @@ impl Answer {
             self.total,
             self.chosen,
         ];
-        output::put_line(out, &shown, ' ')
+        output::put_line(out, &shown, b' ')
     }
 
     // These, and as many entries as are counted: none where the listing isn't filled.
@@ -288,8 +288,8 @@ impl Answer {
             listing,
             self.count,
             output::Style {
-                begin: "  ",
-                gap: ' ',
+                begin: b"  ",
+                gap: b' ',
             },
         )
     }
@@ -425,7 +425,7 @@ impl Bench {
             return Ok(());
         }
         write!(out, "  ")?;
-        output::put_line(out, &report, ' ')
+        output::put_line(out, &report, b' ')
     }
 
     // Makes a call that lists nothing. The last listing stays.
@@ -438,7 +438,7 @@ impl Bench {
     fn put_search(&mut self, out: &mut impl Write, depth: u64, kept: u64) -> io::Result<()> {
         let answer = self.call_named(Call::Search(depth, kept));
         write!(out, "{} ", answer.number)?;
-        output::put_line(out, &answer.found, ' ')
+        output::put_line(out, &answer.found, b' ')
     }
 
     // A search that is carried on: its number, the count, whether it ended, the run's length and eight entry numbers.
@@ -451,7 +451,7 @@ impl Bench {
             answer.count,
             answer.ended()
         )?;
-        output::put_line(out, &answer.found, ' ')
+        output::put_line(out, &answer.found, b' ')
     }
 
     // A run with the waiting draws and words so far: what it answers, and the events that it wrote. The last listing stays.
@@ -474,15 +474,15 @@ impl Bench {
         self.waiting.clear();
         self.words.clear();
         let shown = [number, steps, words, waiting, count, total];
-        output::put_line(out, &shown, ' ')?;
+        output::put_line(out, &shown, b' ')?;
         output::put_rows(
             out,
             &events,
             Limits::EVENT,
             steps,
             output::Style {
-                begin: "  ",
-                gap: ' ',
+                begin: b"  ",
+                gap: b' ',
             },
         )
     }
@@ -516,8 +516,8 @@ impl Bench {
             Line::Search(depth, kept) => self.put_search(out, depth, kept),
             Line::Begin(depth, kept) => self.call_named(Call::Begin(depth, kept)).put(out),
             Line::Carry(number) => self.put_carried(out, number),
-            Line::State => output::put_line(out, &self.machine.state, ' '),
-            Line::Clock => output::put_line(out, &self.machine.clock, ' '),
+            Line::State => output::put_line(out, &self.machine.state, b' '),
+            Line::Clock => output::put_line(out, &self.machine.clock, b' '),
             Line::Independent(i, j) => {
                 writeln!(out, "{}", u64::from(judge(&self.listing, i, j)))
             }
@@ -607,7 +607,7 @@ fn run_file(
 }
 
 fn main(rt: HostRuntime) -> io::Result<()> {
-    let mut out = BufWriter::new(rt.alloc(), io::writer(&rt))?;
+    let mut out = BufWriter::with_capacity(rt.alloc(), output::Limits::BUFFER, io::writer(&rt))?;
     let names = env::args(&rt)?;
     if names.len() < 2 {
         return run_script(&mut out, &mut rt.stdin());

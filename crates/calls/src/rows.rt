@@ -83,7 +83,7 @@ fn put_firsts(out: &mut impl Write, outputs: &[u64], count: usize) -> io::Result
     for part in outputs.chunks_exact(Row::OUTPUT).take(count) {
         let shown = part.get(..Size::SHOWN).unwrap_or(part);
         write!(out, "  ")?;
-        output::put_line(out, shown, ' ')?;
+        output::put_line(out, shown, b' ')?;
     }
     Ok(())
 }
@@ -113,12 +113,12 @@ fn run_rows(out: &mut impl Write, rows: &[u64], machine: &mut Machine) -> io::Re
         Row::ANSWER,
         count as u64,
         output::Style {
-            begin: "",
-            gap: ' ',
+            begin: b"",
+            gap: b' ',
         },
     )?;
     put_firsts(out, &outputs, count)?;
-    output::put_line(out, &machine.clock, ' ')
+    output::put_line(out, &machine.clock, b' ')
 }
 
 // Runs the rows on a fresh engine, and the late one.

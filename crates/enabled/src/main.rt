@@ -25,8 +25,8 @@ fn put_sheet(out: &mut impl Write, answer: Answer, listing: &[u64]) -> io::Resul
         listing,
         answer.count,
         output::Style {
-            begin: "",
-            gap: ',',
+            begin: b"",
+            gap: b',',
         },
     )?;
     writeln!(out, "total,{}", answer.total)
@@ -71,7 +71,7 @@ fn put_model(out: &mut impl Write, text: &[u8]) -> io::Result<()> {
 fn main(rt: HostRuntime) -> io::Result<()> {
     let mut text = [0u8; token::Limits::READ];
     let n = reading::read_full(&mut rt.stdin(), &mut text)?;
-    let mut out = BufWriter::new(rt.alloc(), io::writer(&rt))?;
+    let mut out = BufWriter::with_capacity(rt.alloc(), output::Limits::BUFFER, io::writer(&rt))?;
     put_model(&mut out, &text[..n])?;
     out.flush()
 }

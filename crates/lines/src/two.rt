@@ -16,8 +16,15 @@ pub enum Two {
     Other,
 }
 
-// The word, the blank after it included.
-const WORD: [u8; 7] = *b"endent ";
+#[derive(Clone, Copy)]
+pub struct Word;
+
+impl Word {
+    // Bytes of the word, the blank after it included.
+    pub const LENGTH: u64 = 7;
+}
+
+const WORD: [u8; Word::LENGTH as usize] = *b"endent ";
 
 // The word with one more byte.
 fn in_word(n: usize, b: u8) -> Two

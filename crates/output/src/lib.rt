@@ -7,17 +7,26 @@ use std::fmt::Display;
 use std::io;
 use std::io::Write;
 
+#[derive(Clone, Copy)]
+pub struct Limits;
+
+impl Limits {
+    // Bytes of the buffer through which a program writes.
+    pub const BUFFER: usize = 65536;
+}
+
 // What stands after number i of a line of n: a gap, or the line's end.
-fn after(i: usize, n: usize, gap: char) -> char
+fn after(i: usize, n: usize, gap: u8) -> u8
     requires { i < n }
 {
-    if n - i == 1 { '\n' } else { gap }
+    if n - i == 1 { b'\n' } else { gap }
 }
 
 // A line of numbers.
-pub fn put_line<W: Write, T: Display>(out: &mut W, numbers: &[T], gap: char) -> io::Result<()> {
+pub fn put_line<W: Write, T: Display>(out: &mut W, numbers: &[T], gap: u8) -> io::Result<()> {
     for (i, x) in numbers.iter().enumerate() {
-        write!(out, "{x}{}", after(i, numbers.len(), gap))?;
+        write!(out, "{x}")?;
+        out.write_all(&[after(i, numbers.len(), gap)])?;
     }
     Ok(())
 }
@@ -25,15 +34,15 @@ pub fn put_line<W: Write, T: Display>(out: &mut W, numbers: &[T], gap: char) -> 
 // How rows are written: what each line begins with, and what stands between its numbers.
 #[derive(Clone, Copy)]
 pub struct Style<'a> {
-    pub begin: &'a str,
-    pub gap: char,
+    pub begin: &'a [u8],
+    pub gap: u8,
 }
 
 // A row with all its numbers, on a line. The width is said for the contract: it keeps a short rest of the numbers from being a row.
 fn put_row<W: Write>(out: &mut W, row: &[u64], width: usize, style: Style) -> io::Result<()>
     requires { length row.now ≡ max width 1 }
 {
-    write!(out, "{}", style.begin)?;
+    out.write_all(style.begin)?;
     put_line(out, row, style.gap)
 }
 

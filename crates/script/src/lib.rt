@@ -44,7 +44,7 @@ impl Row {
     // Numbers of a clock.
     pub const CLOCK: usize = 2;
 
-    // The kinds of calls, as a script lends them.
+    // The kinds of calls, as a script lends them, from OPEN to LAST.
     pub const OPEN: u64 = 1;
 
     pub const LIST: u64 = 2;
@@ -70,6 +70,8 @@ impl Row {
     pub const BEGIN: u64 = 12;
 
     pub const CARRY: u64 = 13;
+
+    pub const LAST: u64 = Row::CARRY;
 }
 
 // What the rows of a script name parts of: texts, waiting draws and words.

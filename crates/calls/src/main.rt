@@ -437,20 +437,16 @@ impl Bench {
     // A search: its number, the run's length and eight entry numbers.
     fn put_search(&mut self, out: &mut impl Write, depth: u64, kept: u64) -> io::Result<()> {
         let answer = self.call_named(Call::Search(depth, kept));
-        write!(out, "{} ", answer.number)?;
+        output::put_number(out, answer.number, b' ')?;
         output::put_line(out, &answer.found, b' ')
     }
 
     // A search that is carried on: its number, the count, whether it ended, the run's length and eight entry numbers.
     fn put_carried(&mut self, out: &mut impl Write, number: u64) -> io::Result<()> {
         let answer = self.call_named(Call::Carry(number));
-        write!(
-            out,
-            "{} {} {} ",
-            answer.number,
-            answer.count,
-            answer.ended()
-        )?;
+        for x in [answer.number, answer.count, answer.ended()] {
+            output::put_number(out, x, b' ')?;
+        }
         output::put_line(out, &answer.found, b' ')
     }
 
@@ -519,7 +515,7 @@ impl Bench {
             Line::State => output::put_line(out, &self.machine.state, b' '),
             Line::Clock => output::put_line(out, &self.machine.clock, b' '),
             Line::Independent(i, j) => {
-                writeln!(out, "{}", u64::from(judge(&self.listing, i, j)))
+                output::put_number(out, u64::from(judge(&self.listing, i, j)), b'\n')
             }
             Line::Wait(draw) => {
                 self.keep_draw(draw);

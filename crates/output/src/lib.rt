@@ -1,9 +1,10 @@
 #![tactic(auto)]
 
 // Numbers and entries as lines of text.
-ghost use Rattle.std.specs.Prelude.{◌≡◌, ◌<◌, max, length};
+ghost use Rattle.std.specs.Prelude.{◌≡◌, ◌+◌, ◌<◌, ◌≤◌, max, length, [], ◌∷◌, ◌++◌, OnOk};
+ghost use Rattle.std.specs.Io.KnownBytes.{Appends};
 
-use std::fmt::Display;
+use itoa::Integer;
 use std::io;
 use std::io::Write;
 
@@ -15,18 +16,66 @@ impl Limits {
     pub const BUFFER: usize = 65536;
 }
 
-// What stands after number i of a line of n: a gap, or the line's end.
-fn after(i: usize, n: usize, gap: u8) -> u8
-    requires { i < n }
+// A number's decimal digits, after a `-` if it is negative, and a byte.
+pub fn put_number<W: Write, T: Integer>(out: &mut W, x: T, end: u8) -> io::Result<()>
+    ensures { OnOk result (Appends (W.contents out.old) (W.contents out.new) (T.text x ++ end ∷ [])) }
 {
-    if n - i == 1 { b'\n' } else { gap }
+    let mut digits = itoa::Buffer::new();
+    out.write_all(digits.format(x).as_bytes())?;
+    out.write_all(&[end])
+}
+
+// Numbers that are written at once, and room for the digits of one and the byte after them.
+#[derive(Clone, Copy)]
+struct Group;
+
+impl Group {
+    const SIZE: usize = 8;
+
+    const ROOM: usize = 41;
+}
+
+// Puts a number's digits and a byte before the bytes from `at`, and answers where they begin.
+fn put_before<T: Integer>(text: &mut [u8], at: usize, x: T, end: u8) -> usize
+    requires { (41 ≤ at) × (at ≤ length text.old) }
+    ensures begins { (result < at) × (at ≤ result + 41) }
+    ensures length { length text.new ≡ length text.old }
+{
+    let before = at - 1;
+    text[before] = end;
+    match text[..before].last_chunk_mut() {
+        Some(digits) => at - Group::ROOM + x.write(digits),
+        None => before,
+    }
+}
+
+// Numbers with a byte after each and another after the last, from the last to the first.
+fn put_group<W: Write, T: Integer>(out: &mut W, numbers: &[T], gap: u8, end: u8) -> io::Result<()>
+    requires { length numbers.now ≤ 8 }
+{
+    let mut text = [0u8; Group::SIZE * Group::ROOM];
+    let mut at = text.len();
+    let mut after = end;
+    let mut left = numbers.len();
+    while left > 0 {
+        left -= 1;
+        at = put_before(&mut text, at, numbers[left], after);
+        after = gap;
+    }
+    out.write_all(&text[at..])
+}
+
+// What stands after a number of a line, of which so many are left: a gap, or the line's end.
+fn after(left: usize, gap: u8) -> u8 {
+    if left == 0 { b'\n' } else { gap }
 }
 
 // A line of numbers.
-pub fn put_line<W: Write, T: Display>(out: &mut W, numbers: &[T], gap: u8) -> io::Result<()> {
-    for (i, x) in numbers.iter().enumerate() {
-        write!(out, "{x}")?;
-        out.write_all(&[after(i, numbers.len(), gap)])?;
+pub fn put_line<W: Write, T: Integer>(out: &mut W, numbers: &[T], gap: u8) -> io::Result<()> {
+    let mut left = numbers.len();
+    for group in numbers.chunks(Group::SIZE) {
+        left = left.saturating_sub(group.len());
+        put_group(out, group, gap, after(left, gap))?;
     }
     Ok(())
 }

@@ -528,31 +528,17 @@ impl Bench {
         }
     }
 
-    // Takes a byte of the script, and answers whether the script has ended by it.
-    fn take(&mut self, out: &mut impl Write, b: u8) -> io::Result<bool> {
-        self.keep(b);
-        match self.script.take(b) {
-            Ok(Taken::Goes(next)) => {
-                self.script = next;
-                Ok(false)
-            }
-            Ok(Taken::Asks(asked, next)) => {
-                self.script = next;
-                self.ask(out, asked)?;
-                Ok(false)
-            }
-            Err(broken) => {
-                put_broken(out, broken)?;
-                Ok(true)
-            }
-        }
-    }
-
-    // Takes bytes up to the one that ends the script, if one does.
+    // Takes bytes up to the one that ends the script, and answers whether one does.
     fn take_all(&mut self, out: &mut impl Write, bytes: &[u8]) -> io::Result<bool> {
         for &b in bytes {
-            if self.take(out, b)? {
-                return Ok(true);
+            self.keep(b);
+            match self.script.take(b) {
+                Ok(Taken::Goes) => (),
+                Ok(Taken::Asks(asked)) => self.ask(out, asked)?,
+                Err(broken) => {
+                    put_broken(out, broken)?;
+                    return Ok(true);
+                }
             }
         }
         Ok(false)

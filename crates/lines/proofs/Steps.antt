@@ -8,6 +8,7 @@ use Rattle.lines.specs.declared.line.Line.{Line}
 use Rattle.lines.specs.declared.line.Line.TheVariants.{Open, Steady, List as Listing, Step, State, Report, Save, Return, Forget, Time, Wait, Clock, Independent, Search, Word, Run, Begin, Carry}
 use Rattle.lines.specs.declared.line.Reading.{Reading}
 use Rattle.lines.specs.declared.script.Part.TheVariants.{InLine, InText}
+use Rattle.lines.specs.declared.script.Script.{Script}
 use Rattle.lines.specs.declared.script.Taken.{Taken}
 use Rattle.lines.specs.Limit.{limit}
 use Rattle.lines.specs.Two.{run}
@@ -69,10 +70,10 @@ module _ {s : List ℕ} {qs : List Line} {from : ℕ} {r : Reading} (x : LineBeg
   from-here : from ≡ number_after s
   from-here = x.from_is ∙ same_number x.items s (ap breaks x.is ∙ breaks-append x.items x.line ∙ (let u = x.unbroken in omega arith))
 
-  pub line-goes : {r' : Reading} → (b ≡ line_feed → ⊥) → Reads (x.line ++ (b ∷ [])) r' → Stands (s ++ (b ∷ [])) qs (record { line = from; from = from; part = InLine r' })
-  line-goes n h =
+  pub line-goes : {line : ℕ} {r' : Reading} → line ≡ number_after s → (b ≡ line_feed → ⊥) → Reads (x.line ++ (b ∷ [])) r' → Stands (s ++ (b ∷ [])) qs (record { line = line; from = from; part = InLine r' })
+  line-goes {line} e n h =
       record {
-        line-is = after-other s b from n from-here;
+        line-is = after-other s b line n e;
         begun =
             record {
               items = x.items;
@@ -112,7 +113,7 @@ module _ {s : List ℕ} {qs : List Line} {from : ℕ} {r : Reading} (x : LineBeg
       }
 
   -- by what the line says
-  ends_so : (l : Line) → b ≡ line_feed → line_of x.line ≡ Some l → Takes s qs b (Ok (ended from l))
+  ends_so : (l : Line) → b ≡ line_feed → line_of x.line ≡ Some l → Takes s qs b (Ok (ended from l).0) (ended from l).1
   ends_so (Open n) e h = line-open e h refl
   ends_so (Steady n) e h = line-open e h refl
   ends_so Listing e h = line-short e h refl
@@ -132,8 +133,8 @@ module _ {s : List ℕ} {qs : List Line} {from : ℕ} {r : Reading} (x : LineBeg
   ends_so (Begin d n) e h = line-short e h refl
   ends_so (Carry n) e h = line-short e h refl
 
-  pub line-ends : {l : Line} {y : Taken} → b ≡ line_feed → line_of x.line ≡ Some l → y ≡ ended from l → Takes s qs b (Ok y)
-  line-ends {l} e h t = subst (λ (z : Taken). Takes s qs b (Ok z)) (sym t) (ends_so l e h)
+  pub line-ends : {l : Line} {y : Taken} {z : Script} → b ≡ line_feed → line_of x.line ≡ Some l → (y, z) ≡ ended from l → Takes s qs b (Ok y) z
+  line-ends {l} e h t = subst (λ (u : Taken × Script). Takes s qs b (Ok u.0) u.1) (sym t) (ends_so l e h)
 
 -- ---- in a text
 module _ {s : List ℕ} {qs : List Line} {from : ℕ} {q : Line} {n k : ℕ} (x : TextBegun s qs from q n k) (b : ℕ) where

@@ -1,7 +1,7 @@
 // A script, read byte by byte: lines, and the bytes of texts.
-ghost use Rattle.std.specs.Prelude.{◌≡◌, ℕ, List, [], ◌∷◌, ◌++◌};
+ghost use Rattle.std.specs.Prelude.{◌≡◌, ℕ, List, [], ◌∷◌, ◌++◌, OnErr};
 ghost use Rattle.lines.specs.declared.line.Line.{Line as Asked};
-ghost use Rattle.lines.specs.Script.{number_after, LineBegun, TextBegun, Stands, Takes, Ends, next, fresh, ended};
+ghost use Rattle.lines.specs.Script.{number_after, LineBegun, Stands, Takes, Ends, next, fresh, ended};
 
 use crate::line::{Head, Line, Reading};
 
@@ -30,11 +30,11 @@ pub struct Script {
 }
 
 // What a byte does that is right: the item goes on, or it ends and asks for this.
-// Not a Script with an Option of a Line: what is promised of the two cases differs, and is said of each by its name.
+// Not an Option of a Line: what is promised of the two cases differs, and is said of each by its name.
 #[derive(Clone, Copy)]
 pub enum Taken {
-    Goes(Script),
-    Asks(Line, Script),
+    Goes,
+    Asks(Line),
 }
 
 // A byte is wrong, or the script ends, within an item that began with this line.
@@ -70,60 +70,6 @@ fn begin(line: u64) -> Script
     }
 }
 
-// The line ends that an item began with.
-fn end_line(line: u64, says: Line) -> Taken
-    ensures { result ≡ ended line says }
-{
-    let next = next_line(line);
-    match says {
-        Line::Open(size) | Line::Steady(size) => Taken::Goes(Script {
-            line: next,
-            from: line,
-            part: Part::InText(Text {
-                asked: says,
-                size,
-                taken: 0,
-            }),
-        }),
-        asked => Taken::Asks(asked, begin(next)),
-    }
-}
-
-fn take_in_line(from: u64, reading: Reading, b: u8) -> Result<Taken, Broken>
-    ensures { (s : List ℕ) (qs : List Asked) → LineBegun s qs from reading → Takes s qs b result }
-{
-    if b == b'\n' {
-        return match reading.says() {
-            Some(says) => Ok(end_line(from, says)),
-            None => Err(Broken { from }),
-        };
-    }
-    Ok(Taken::Goes(Script {
-        line: from,
-        from,
-        part: Part::InLine(reading.with(b)),
-    }))
-}
-
-fn take_in_text(line: u64, from: u64, text: Text, b: u8) -> Result<Taken, Broken>
-    ensures { (s : List ℕ) (qs : List Asked) → line ≡ number_after s → TextBegun s qs from text.asked text.size text.taken → Takes s qs b result }
-{
-    if text.taken < text.size {
-        return Ok(Taken::Goes(Script {
-            line: line_after(line, b),
-            from,
-            part: Part::InText(Text {
-                taken: text.taken + 1,
-                ..text
-            }),
-        }));
-    }
-    if b != b'\n' {
-        return Err(Broken { from });
-    }
-    Ok(Taken::Asks(text.asked, begin(next_line(line))))
-}
-
 fn line_at_end(from: u64, reading: Reading) -> Result<(), Broken>
     ensures { (s : List ℕ) (qs : List Asked) → LineBegun s qs from reading → Ends s qs result }
 {
@@ -140,14 +86,57 @@ impl Script {
         begin(1)
     }
 
-    // What the next byte does.
-    pub fn take(self, b: u8) -> Result<Taken, Broken>
-        ensures { (s : List ℕ) (qs : List Asked) → Stands s qs self → Takes s qs b result }
+    // The line ends that the item began with.
+    fn end_line(&mut self, says: Line) -> Taken
+        ensures { (result, self.new) ≡ ended self.old.from says }
     {
-        let Script { line, from, part } = self;
-        match part {
-            Part::InLine(reading) => take_in_line(from, reading, b),
-            Part::InText(text) => take_in_text(line, from, text, b),
+        let next = next_line(self.from);
+        match says {
+            Line::Open(size) | Line::Steady(size) => {
+                self.line = next;
+                self.part = Part::InText(Text {
+                    asked: says,
+                    size,
+                    taken: 0,
+                });
+                Taken::Goes
+            }
+            asked => {
+                *self = begin(next);
+                Taken::Asks(asked)
+            }
+        }
+    }
+
+    // What the next byte does, which leaves the script as it was if it is wrong.
+    pub fn take(&mut self, b: u8) -> Result<Taken, Broken>
+        ensures takes { (s : List ℕ) (qs : List Asked) → Stands s qs self.old → Takes s qs b result self.new }
+        ensures kept { OnErr result (self.new ≡ self.old) }
+    {
+        match &mut self.part {
+            Part::InLine(reading) => {
+                if b != b'\n' {
+                    *reading = reading.with(b);
+                    return Ok(Taken::Goes);
+                }
+                match reading.says() {
+                    Some(says) => Ok(self.end_line(says)),
+                    None => Err(Broken { from: self.from }),
+                }
+            }
+            Part::InText(text) => {
+                if text.taken < text.size {
+                    text.taken += 1;
+                    self.line = line_after(self.line, b);
+                    return Ok(Taken::Goes);
+                }
+                if b != b'\n' {
+                    return Err(Broken { from: self.from });
+                }
+                let asked = text.asked;
+                *self = begin(next_line(self.line));
+                Ok(Taken::Asks(asked))
+            }
         }
     }
 

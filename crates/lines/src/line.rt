@@ -264,31 +264,22 @@ impl Reading {
         }
     }
 
-    // The line with one more byte.
-    pub fn with(self, b: u8) -> Self
-        ensures { (s : List ℕ) → Reads s self → Reads (s ++ (b ∷ [])) result }
+    // The line goes on with one more byte. Each number is grown from those before the byte: `early` before `head`, and `mid` and `late` before `after`.
+    pub fn with(&mut self, b: u8)
+        ensures { (s : List ℕ) → Reads s self.old → Reads (s ++ (b ∷ [])) self.new }
     {
-        let kept = next_kept(self.kept);
-        let early = next_rest(self.head, Head::FOUR, self.early, b);
+        self.kept = next_kept(self.kept);
+        self.early = next_rest(self.head, Head::FOUR, self.early, b);
         if self.head < Head::FULL {
-            return Reading {
-                head: self.head * 256 + u64::from(b),
-                early,
-                kept,
-                ..self
-            };
+            self.head = self.head * 256 + u64::from(b);
+            return;
         }
-        Reading {
-            early,
-            rest: bytes::with_byte(self.rest, b),
-            after: next_bytes(self.after, Head::TWO, b),
-            mid: next_rest(self.after, Head::ONE, self.mid, b),
-            late: next_rest(self.after, Head::TWO, self.late, b),
-            further: next_bytes(self.further, Head::THREE, b),
-            kept,
-            two: bytes::with_byte(self.two, b),
-            ..self
-        }
+        self.rest = bytes::with_byte(self.rest, b);
+        self.mid = next_rest(self.after, Head::ONE, self.mid, b);
+        self.late = next_rest(self.after, Head::TWO, self.late, b);
+        self.after = next_bytes(self.after, Head::TWO, b);
+        self.further = next_bytes(self.further, Head::THREE, b);
+        self.two = bytes::with_byte(self.two, b);
     }
 
     // What the whole line says, if it has a form.

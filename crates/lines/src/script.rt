@@ -116,7 +116,7 @@ impl Script {
         match &mut self.part {
             Part::InLine(reading) => {
                 if b != b'\n' {
-                    *reading = reading.with(b);
+                    reading.with(b);
                     return Ok(Taken::Goes);
                 }
                 match reading.says() {

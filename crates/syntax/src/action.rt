@@ -41,27 +41,27 @@ pub fn names(point: Point, close: u8) -> Members
 }
 
 // The values that are sent, from the sign on; the channel is on the left, `kind` is that of the action.
-pub fn sending(left: Left, nodes: &mut [u64], kind: u8) -> Read
-    requires nonzero { 0 < get_or left.toks.now left.at 0 }
-    ensures follows { Follows left.entry.toks.now (left.entry.at + 1) (the_values) (place result) }
-    ensures extended { Extended (flat_sent (get_or left.entry.toks.now left.entry.at 0)) (λ c v. (c, v)) Table.Channel (Sent kind left.entry.at) left.entry.toks.now nodes.old nodes.new left.entry.at left.entry.root result }
+pub fn sending(left: &Left, nodes: &mut [u64], kind: u8) -> Read
+    requires nonzero { 0 < get_or left.now.toks.now left.now.at 0 }
+    ensures follows { Follows left.now.toks.now (left.now.at + 1) (the_values) (place result) }
+    ensures extended { Extended (flat_sent (get_or left.now.toks.now left.now.at 0)) (λ c v. (c, v)) Table.Channel (Sent kind left.now.at) left.now.toks.now nodes.old nodes.new left.now.at left.now.root result }
 {
     let spot = left.spot();
-    let (n, r) = entries::<Value>(spot.next(), nodes)?;
+    let (n, r) = entries::<Value>(&spot.next(), nodes)?;
     let root = r + 1;
     tree::pair(nodes, root, kind, left.root);
     Ok((n, root))
 }
 
 // The sets of a receive, from its sign on, and the names it binds, if any; `kind` is that of a receive without names.
-pub fn receiving(left: Left, nodes: &mut [u64], kind: u8) -> Read
-    requires nonzero { 0 < get_or left.toks.now left.at 0 }
+pub fn receiving(left: &Left, nodes: &mut [u64], kind: u8) -> Read
+    requires nonzero { 0 < get_or left.now.toks.now left.now.at 0 }
     requires kind_bound { kind < 255 }
-    ensures follows { Follows left.entry.toks.now (left.entry.at + 1) (the_sets ++ BoundNames ∷ []) (place result) }
-    ensures extended { Extended (flat_heard (get_or left.entry.toks.now left.entry.at 0)) (λ c h. (c, h)) Table.Channel (Heard kind left.entry.at) left.entry.toks.now nodes.old nodes.new left.entry.at left.entry.root result }
+    ensures follows { Follows left.now.toks.now (left.now.at + 1) (the_sets ++ BoundNames ∷ []) (place result) }
+    ensures extended { Extended (flat_heard (get_or left.now.toks.now left.now.at 0)) (λ c h. (c, h)) Table.Channel (Heard kind left.now.at) left.now.toks.now nodes.old nodes.new left.now.at left.now.root result }
 {
     let spot = left.spot();
-    let (n, r) = entries::<Set>(spot.next(), nodes)?;
+    let (n, r) = entries::<Set>(&spot.next(), nodes)?;
     let root = r + 1;
     if token::peek(spot.toks, n) != b'(' {
         tree::pair(nodes, root, kind, left.root);
@@ -75,9 +75,9 @@ pub fn receiving(left: Left, nodes: &mut [u64], kind: u8) -> Read
 }
 
 // What is done on the channel that is on the left: a launch, kill or receive.
-pub fn deed(left: Left, nodes: &mut [u64]) -> Read
-    ensures follows { Follows left.entry.toks.now left.entry.at (ChannelEnd ∷ []) (place result) }
-    ensures extended { Extended flat_deed (λ c d. deed_at c d left.entry.at) Table.Channel Table.Action left.entry.toks.now nodes.old nodes.new left.entry.at left.entry.root result }
+pub fn deed(left: &Left, nodes: &mut [u64]) -> Read
+    ensures follows { Follows left.now.toks.now left.now.at (ChannelEnd ∷ []) (place result) }
+    ensures extended { Extended flat_deed (λ c d. deed_at c d left.now.at) Table.Channel Table.Action left.now.toks.now nodes.old nodes.new left.now.at left.now.root result }
 {
     let spot = left.spot();
     match spot.peek() {
@@ -89,40 +89,40 @@ pub fn deed(left: Left, nodes: &mut [u64]) -> Read
 }
 
 // A launch, kill or receive, from its channel on.
-pub fn beacon(spot: Spot, nodes: &mut [u64]) -> Read
-    ensures follows { Follows spot.entry.toks.now spot.entry.at (a_channel ++ ChannelEnd ∷ []) (place result) }
-    ensures parsed { Parsed flat_action (λ t a. Table.Action t (action_at a spot.entry.at)) spot.entry.toks.now nodes.old nodes.new spot.entry.at spot.entry.used result }
+pub fn beacon(spot: &Spot, nodes: &mut [u64]) -> Read
+    ensures follows { Follows spot.now.toks.now spot.now.at (a_channel ++ ChannelEnd ∷ []) (place result) }
+    ensures parsed { Parsed flat_action (λ t a. Table.Action t (action_at a spot.now.at)) spot.now.toks.now nodes.old nodes.new spot.now.at spot.now.used result }
 {
     let (n, left) = channel::channel(spot, nodes)?;
-    deed(spot.after(n, left), nodes)
+    deed(&spot.after(n, left), nodes)
 }
 
 // A check, from its `~` on.
-pub fn check(spot: Spot, nodes: &mut [u64]) -> Read
-    requires at_value { get_or spot.toks.now spot.at 0 ≡ kind.tilde }
-    ensures follows { Follows spot.entry.toks.now spot.entry.at (Want kind.tilde ∷ a_channel ++ Want kind.query ∷ the_sets) (place result) }
-    ensures parsed { Parsed flat_action (λ t a. Table.Action t (action_at a spot.entry.at)) spot.entry.toks.now nodes.old nodes.new spot.entry.at spot.entry.used result }
+pub fn check(spot: &Spot, nodes: &mut [u64]) -> Read
+    requires at_value { get_or spot.now.toks.now spot.now.at 0 ≡ kind.tilde }
+    ensures follows { Follows spot.now.toks.now spot.now.at (Want kind.tilde ∷ a_channel ++ Want kind.query ∷ the_sets) (place result) }
+    ensures parsed { Parsed flat_action (λ t a. Table.Action t (action_at a spot.now.at)) spot.now.toks.now nodes.old nodes.new spot.now.at spot.now.used result }
 {
-    let (n, left) = channel::channel(spot.next(), nodes)?;
+    let (n, left) = channel::channel(&spot.next(), nodes)?;
     if token::peek(spot.toks, n) != b'?' {
         return Err(n);
     }
-    let (m, r) = entries::<Set>(spot.to(n + 1, left + 1), nodes)?;
+    let (m, r) = entries::<Set>(&spot.to(n + 1, left + 1), nodes)?;
     let root = r + 1;
     tree::pair(nodes, root, NodeKind::CHECK, left);
     Ok((m, root))
 }
 
 // A handshake, from its `@` on.
-pub fn handshake(spot: Spot, nodes: &mut [u64]) -> Read
-    requires at_value { get_or spot.toks.now spot.at 0 ≡ kind.at }
-    ensures follows { Follows spot.entry.toks.now spot.entry.at (Want kind.at ∷ a_channel ++ HandEnd ∷ []) (place result) }
-    ensures parsed { Parsed flat_action (λ t a. Table.Action t (action_at a spot.entry.at)) spot.entry.toks.now nodes.old nodes.new spot.entry.at spot.entry.used result }
+pub fn handshake(spot: &Spot, nodes: &mut [u64]) -> Read
+    requires at_value { get_or spot.now.toks.now spot.now.at 0 ≡ kind.at }
+    ensures follows { Follows spot.now.toks.now spot.now.at (Want kind.at ∷ a_channel ++ HandEnd ∷ []) (place result) }
+    ensures parsed { Parsed flat_action (λ t a. Table.Action t (action_at a spot.now.at)) spot.now.toks.now nodes.old nodes.new spot.now.at spot.now.used result }
 {
-    let (n, left) = channel::channel(spot.next(), nodes)?;
+    let (n, left) = channel::channel(&spot.next(), nodes)?;
     match token::peek(spot.toks, n) {
-        b'!' => sending(spot.after(n, left), nodes, NodeKind::HAND_SEND),
-        b'?' => receiving(spot.after(n, left), nodes, NodeKind::HAND_RECEIVE),
+        b'!' => sending(&spot.after(n, left), nodes, NodeKind::HAND_SEND),
+        b'?' => receiving(&spot.after(n, left), nodes, NodeKind::HAND_RECEIVE),
         _ => Err(n),
     }
 }

@@ -21,13 +21,13 @@ use tree::{NodeKind, Read};
 pub type Roots = Result<(usize, usize, usize), usize>;
 
 // A rate and the `}` after it; the action before it is on the left.
-pub fn closed(left: Left, nodes: &mut [u64]) -> Roots
-    ensures follows { Follows left.entry.toks.now left.entry.at (a_rate ++ Want kind.close_curly ∷ []) (place_counted result) }
-    ensures tallied { Tallied flat_closed (λ v. 0) (λ t v. Table.Rate t (rate_at v left.entry.at)) left.entry.toks.now nodes.old nodes.new left.entry.at (left.entry.root + 1) left.entry.root result }
-    ensures spare { Spare left.entry.at (left.entry.root + 1) left.entry.root result }
+pub fn closed(left: &Left, nodes: &mut [u64]) -> Roots
+    ensures follows { Follows left.now.toks.now left.now.at (a_rate ++ Want kind.close_curly ∷ []) (place_counted result) }
+    ensures tallied { Tallied flat_closed (λ v. 0) (λ t v. Table.Rate t (rate_at v left.now.at)) left.now.toks.now nodes.old nodes.new left.now.at (left.now.root + 1) left.now.root result }
+    ensures spare { Spare left.now.at (left.now.root + 1) left.now.root result }
 {
     let spot = left.spot();
-    let (n, root) = rate::rate(spot, nodes)?;
+    let (n, root) = rate::rate(&spot, nodes)?;
     if token::peek(spot.toks, n) != b'}' {
         return Err(n);
     }
@@ -35,58 +35,58 @@ pub fn closed(left: Left, nodes: &mut [u64]) -> Roots
 }
 
 // The comma after the action that is on the left, a rate and the `}`.
-pub fn rated(left: Left, nodes: &mut [u64]) -> Roots
-    ensures follows { Follows left.entry.toks.now left.entry.at (the_rate ++ Want kind.close_curly ∷ []) (place_counted result) }
-    ensures rating { Rating left.entry.toks.now nodes.old nodes.new left.entry.at left.entry.root result }
-    ensures spare { Spare (left.entry.at + 1) (left.entry.root + 1) left.entry.root result }
+pub fn rated(left: &Left, nodes: &mut [u64]) -> Roots
+    ensures follows { Follows left.now.toks.now left.now.at (the_rate ++ Want kind.close_curly ∷ []) (place_counted result) }
+    ensures rating { Rating left.now.toks.now nodes.old nodes.new left.now.at left.now.root result }
+    ensures spare { Spare (left.now.at + 1) (left.now.root + 1) left.now.root result }
 {
     let spot = left.spot();
     if spot.peek() != b',' {
         return Err(left.at);
     }
-    closed(spot.after(left.at + 1, left.root), nodes)
+    closed(&spot.after(left.at + 1, left.root), nodes)
 }
 
 // What follows a channel's first two items, which are at `first` and on the left, up to the `}`; they left a token without a node.
-pub fn second(left: Left, nodes: &mut [u64], first: usize) -> Roots
-    requires spare { left.root + 1 < left.at }
-    requires first_le_root { first ≤ left.root }
-    ensures follows { Follows left.entry.toks.now left.entry.at (ThirdItem ∷ the_deed ++ Want kind.close_curly ∷ []) (place_counted result) }
-    ensures seconds { Seconds left.entry.toks.now nodes.old nodes.new left.entry.at first left.entry.root result }
+pub fn second(left: &Left, nodes: &mut [u64], first: usize) -> Roots
+    requires spare { left.now.root + 1 < left.now.at }
+    requires first_le_root { first ≤ left.now.root }
+    ensures follows { Follows left.now.toks.now left.now.at (ThirdItem ∷ the_deed ++ Want kind.close_curly ∷ []) (place_counted result) }
+    ensures seconds { Seconds left.now.toks.now nodes.old nodes.new left.now.at first left.now.root result }
 {
     let spot = left.spot();
     let (n, root) = channel::thirds(left, nodes, first)?;
-    let (m, deed) = action::deed(spot.after(n, root), nodes)?;
-    rated(spot.after(m, deed), nodes)
+    let (m, deed) = action::deed(&spot.after(n, root), nodes)?;
+    rated(&spot.after(m, deed), nodes)
 }
 
 // What follows an item's first atom, which is on the left.
-pub fn rest(left: Left, nodes: &mut [u64]) -> Read
-    ensures follows { Follows left.entry.toks.now left.entry.at (Factors' ∷ Terms' ∷ []) (place result) }
-    ensures extended { Extended flat_rest (λ x p. rest_at x p left.entry.at) Table.Expr Table.Expr left.entry.toks.now nodes.old nodes.new left.entry.at left.entry.root result }
+pub fn rest(left: &Left, nodes: &mut [u64]) -> Read
+    ensures follows { Follows left.now.toks.now left.now.at (Factors' ∷ Terms' ∷ []) (place result) }
+    ensures extended { Extended flat_rest (λ x p. rest_at x p left.now.at) Table.Expr Table.Expr left.now.toks.now nodes.old nodes.new left.now.at left.now.root result }
 {
     let spot = left.spot();
     let (n, r) = expression::factors(left, nodes)?;
-    expression::terms(spot.after(n, r), nodes)
+    expression::terms(&spot.after(n, r), nodes)
 }
 
 // After a name and a comma, what may be a rate's number or name, or an item's, perhaps times an atom: the last of its tokens is `digits`, its node is of the one kind or the other.
 pub fn undecided(
-    named: Named<{ b',' }>,
+    named: &Named<{ b',' }>,
     nodes: &mut [u64],
     digits: usize,
     rate: u8,
     item: u8,
 ) -> Roots
-    requires either { Either named.spot.toks.now (named.spot.at + 1 + 1) digits rate item }
-    ensures follows { Follows named.entry.spot.toks.now (digits + 1) (LoneScale ∷ Want kind.close_curly ∷ []) (place_counted result) }
-    ensures inside { Inside named.entry.spot.toks.now nodes.old nodes.new named.entry.spot.at named.entry.spot.used result }
+    requires either { Either named.now.spot.toks.now (named.now.spot.at + 1 + 1) digits rate item }
+    ensures follows { Follows named.now.spot.toks.now (digits + 1) (LoneScale ∷ Want kind.close_curly ∷ []) (place_counted result) }
+    ensures inside { Inside named.now.spot.toks.now nodes.old nodes.new named.now.spot.at named.now.spot.used result }
 {
     let spot = named.spot;
     let left = spot.used + 1;
     let at = digits + 1;
     let (n, root) = if token::peek(spot.toks, at) == b'*' {
-        let (m, r) = expression::atom(spot.to(at + 1, left + 1), nodes)?;
+        let (m, r) = expression::atom(&spot.to(at + 1, left + 1), nodes)?;
         (m, r + 1)
     } else {
         (at, left)
@@ -105,14 +105,14 @@ pub fn undecided(
     if waits {
         return Ok((n + 1, root, spot.used));
     }
-    let (m, mid) = rest(spot.after(n, root), nodes)?;
-    second(spot.after(m, mid), nodes, spot.used)
+    let (m, mid) = rest(&spot.after(n, root), nodes)?;
+    second(&spot.after(m, mid), nodes, spot.used)
 }
 
 // A name and a comma, and what follows: a rate, or a channel's second item.
-pub fn lone(named: Named<{ b',' }>, nodes: &mut [u64]) -> Roots
-    ensures follows { Follows named.entry.spot.toks.now named.entry.spot.at (Braced ∷ Want kind.close_curly ∷ []) (place_counted result) }
-    ensures inside { Inside named.entry.spot.toks.now nodes.old nodes.new named.entry.spot.at named.entry.spot.used result }
+pub fn lone(named: &Named<{ b',' }>, nodes: &mut [u64]) -> Roots
+    ensures follows { Follows named.now.spot.toks.now named.now.spot.at (Braced ∷ Want kind.close_curly ∷ []) (place_counted result) }
+    ensures inside { Inside named.now.spot.toks.now nodes.old nodes.new named.now.spot.at named.now.spot.used result }
 {
     let spot = named.spot;
     let n = spot.at + 1 + 1;
@@ -122,21 +122,21 @@ pub fn lone(named: Named<{ b',' }>, nodes: &mut [u64]) -> Roots
         b'-' => lone_minus(named, nodes),
         Kind::DECIMAL => {
             tree::leaf(nodes, spot.used, NodeKind::WAIT, spot.at);
-            closed(spot.after(n, spot.used), nodes)
+            closed(&spot.after(n, spot.used), nodes)
         }
         _ => {
             tree::leaf(nodes, spot.used, NodeKind::NAMED, spot.at);
-            let (m, mid) = expression::expr(spot.to(n, spot.used + 1), nodes)?;
-            second(spot.after(m, mid), nodes, spot.used)
+            let (m, mid) = expression::expr(&spot.to(n, spot.used + 1), nodes)?;
+            second(&spot.after(m, mid), nodes, spot.used)
         }
     }
 }
 
 // A name, a comma and a `-`, and what follows.
-pub fn lone_minus(named: Named<{ b',' }>, nodes: &mut [u64]) -> Roots
-    requires at_value_2 { get_or named.spot.toks.now (named.spot.at + 1 + 1) 0 ≡ kind.minus }
-    ensures follows { Follows named.entry.spot.toks.now named.entry.spot.at (Braced ∷ Want kind.close_curly ∷ []) (place_counted result) }
-    ensures inside { Inside named.entry.spot.toks.now nodes.old nodes.new named.entry.spot.at named.entry.spot.used result }
+pub fn lone_minus(named: &Named<{ b',' }>, nodes: &mut [u64]) -> Roots
+    requires at_value_2 { get_or named.now.spot.toks.now (named.now.spot.at + 1 + 1) 0 ≡ kind.minus }
+    ensures follows { Follows named.now.spot.toks.now named.now.spot.at (Braced ∷ Want kind.close_curly ∷ []) (place_counted result) }
+    ensures inside { Inside named.now.spot.toks.now nodes.old nodes.new named.now.spot.at named.now.spot.used result }
 {
     let spot = named.spot;
     let n = spot.at + 1 + 1;
@@ -151,30 +151,30 @@ pub fn lone_minus(named: Named<{ b',' }>, nodes: &mut [u64]) -> Roots
         ),
         Kind::DECIMAL => {
             tree::leaf(nodes, spot.used, NodeKind::WAIT, spot.at);
-            closed(spot.after(n, spot.used), nodes)
+            closed(&spot.after(n, spot.used), nodes)
         }
         _ => Err(digits),
     }
 }
 
 // Action, comma, rate and `}`.
-pub fn braced(spot: Spot, nodes: &mut [u64]) -> Roots
-    ensures follows { Follows spot.entry.toks.now spot.entry.at (Braced ∷ Want kind.close_curly ∷ []) (place_counted result) }
-    ensures inside { Inside spot.entry.toks.now nodes.old nodes.new spot.entry.at spot.entry.used result }
+pub fn braced(spot: &Spot, nodes: &mut [u64]) -> Roots
+    ensures follows { Follows spot.now.toks.now spot.now.at (Braced ∷ Want kind.close_curly ∷ []) (place_counted result) }
+    ensures inside { Inside spot.now.toks.now nodes.old nodes.new spot.now.at spot.now.used result }
 {
     match spot.peek() {
         b'~' => {
             let (n, root) = action::check(spot, nodes)?;
-            rated(spot.after(n, root), nodes)
+            rated(&spot.after(n, root), nodes)
         }
         b'@' => {
             let (n, root) = action::handshake(spot, nodes)?;
-            rated(spot.after(n, root), nodes)
+            rated(&spot.after(n, root), nodes)
         }
-        Kind::NAME if token::peek(spot.toks, spot.at + 1) == b',' => lone(Named { spot }, nodes),
+        Kind::NAME if token::peek(spot.toks, spot.at + 1) == b',' => lone(&Named { spot: *spot }, nodes),
         _ => {
             let (n, root) = action::beacon(spot, nodes)?;
-            rated(spot.after(n, root), nodes)
+            rated(&spot.after(n, root), nodes)
         }
     }
 }

@@ -32,77 +32,77 @@ pub fn relation_kind(t: u8) -> Option<u8>
 }
 
 // A relation; `more` is added to its node's kind.
-pub fn compare(spot: Spot, nodes: &mut [u64], more: u8) -> Read
+pub fn compare(spot: &Spot, nodes: &mut [u64], more: u8) -> Read
     requires more_le_turned { more ≤ turned }
-    ensures follows { Follows spot.entry.toks.now spot.entry.at (an_expr ++ Relation' ∷ an_expr) (place result) }
-    ensures parsed { Parsed flat_related (HoldsRelated more spot.entry.at) spot.entry.toks.now nodes.old nodes.new spot.entry.at spot.entry.used result }
+    ensures follows { Follows spot.now.toks.now spot.now.at (an_expr ++ Relation' ∷ an_expr) (place result) }
+    ensures parsed { Parsed flat_related (HoldsRelated more spot.now.at) spot.now.toks.now nodes.old nodes.new spot.now.at spot.now.used result }
 {
     let (n, left) = expression::expr(spot, nodes)?;
     let Some(kind) = relation_kind(token::peek(spot.toks, n)) else {
         return Err(n);
     };
-    let (m, r) = expression::expr(spot.to(n + 1, left + 1), nodes)?;
+    let (m, r) = expression::expr(&spot.to(n + 1, left + 1), nodes)?;
     let root = r + 1;
     tree::pair(nodes, root, kind + more, left);
     Ok((m, root))
 }
 
 // A relation, perhaps after a `~`.
-pub fn test(spot: Spot, nodes: &mut [u64]) -> Read
-    ensures follows { Follows spot.entry.toks.now spot.entry.at (a_test) (place result) }
-    ensures parsed { Parsed flat_test (λ t c. Table.Cond t (test_at c spot.entry.at)) spot.entry.toks.now nodes.old nodes.new spot.entry.at spot.entry.used result }
+pub fn test(spot: &Spot, nodes: &mut [u64]) -> Read
+    ensures follows { Follows spot.now.toks.now spot.now.at (a_test) (place result) }
+    ensures parsed { Parsed flat_test (λ t c. Table.Cond t (test_at c spot.now.at)) spot.now.toks.now nodes.old nodes.new spot.now.at spot.now.used result }
 {
     if spot.peek() == b'~' {
-        return compare(spot.next(), nodes, NodeKind::TURNED);
+        return compare(&spot.next(), nodes, NodeKind::TURNED);
     }
     compare(spot, nodes, 0)
 }
 
 // What `&` joins to the condition on the left.
 // One generic function for this, `ors` and `set::parts` would be longer than the three: a trait with a sign and a reader, and eleven definitions of what each reads.
-pub fn ands(left: Left, nodes: &mut [u64]) -> Read
-    ensures follows { Follows left.entry.toks.now left.entry.at (Ands' ∷ []) (place result) }
-    ensures extended { Extended flat_ands (λ c a. ands_at c a left.entry.at) Table.Cond Table.Cond left.entry.toks.now nodes.old nodes.new left.entry.at left.entry.root result }
+pub fn ands(left: &Left, nodes: &mut [u64]) -> Read
+    ensures follows { Follows left.now.toks.now left.now.at (Ands' ∷ []) (place result) }
+    ensures extended { Extended flat_ands (λ c a. ands_at c a left.now.at) Table.Cond Table.Cond left.now.toks.now nodes.old nodes.new left.now.at left.now.root result }
 {
     let spot = left.spot();
     if spot.peek() != b'&' {
         return Ok((left.at, left.root));
     }
-    let (n, r) = test(spot.next(), nodes)?;
+    let (n, r) = test(&spot.next(), nodes)?;
     let root = r + 1;
     tree::pair(nodes, root, NodeKind::BOTH, left.root);
-    ands(spot.after(n, root), nodes)
+    ands(&spot.after(n, root), nodes)
 }
 
 // A test and what `&` joins to it.
-pub fn conjunction(spot: Spot, nodes: &mut [u64]) -> Read
-    ensures follows { Follows spot.entry.toks.now spot.entry.at (a_test ++ Ands' ∷ []) (place result) }
-    ensures parsed { Parsed flat_conjunction (λ t p. Table.Cond t (conjunction_at p.0 p.1 spot.entry.at)) spot.entry.toks.now nodes.old nodes.new spot.entry.at spot.entry.used result }
+pub fn conjunction(spot: &Spot, nodes: &mut [u64]) -> Read
+    ensures follows { Follows spot.now.toks.now spot.now.at (a_test ++ Ands' ∷ []) (place result) }
+    ensures parsed { Parsed flat_conjunction (λ t p. Table.Cond t (conjunction_at p.0 p.1 spot.now.at)) spot.now.toks.now nodes.old nodes.new spot.now.at spot.now.used result }
 {
     let (n, r) = test(spot, nodes)?;
-    ands(spot.after(n, r), nodes)
+    ands(&spot.after(n, r), nodes)
 }
 
 // What `|` joins to the condition on the left.
-pub fn ors(left: Left, nodes: &mut [u64]) -> Read
-    ensures follows { Follows left.entry.toks.now left.entry.at (Ors' ∷ []) (place result) }
-    ensures extended { Extended flat_ors (λ c o. ors_at c o left.entry.at) Table.Cond Table.Cond left.entry.toks.now nodes.old nodes.new left.entry.at left.entry.root result }
+pub fn ors(left: &Left, nodes: &mut [u64]) -> Read
+    ensures follows { Follows left.now.toks.now left.now.at (Ors' ∷ []) (place result) }
+    ensures extended { Extended flat_ors (λ c o. ors_at c o left.now.at) Table.Cond Table.Cond left.now.toks.now nodes.old nodes.new left.now.at left.now.root result }
 {
     let spot = left.spot();
     if spot.peek() != b'|' {
         return Ok((left.at, left.root));
     }
-    let (n, r) = conjunction(spot.next(), nodes)?;
+    let (n, r) = conjunction(&spot.next(), nodes)?;
     let root = r + 1;
     tree::pair(nodes, root, NodeKind::EITHER, left.root);
-    ors(spot.after(n, root), nodes)
+    ors(&spot.after(n, root), nodes)
 }
 
 // Tests joined by `&`, and these by `|`.
-pub fn condition(spot: Spot, nodes: &mut [u64]) -> Read
-    ensures follows { Follows spot.entry.toks.now spot.entry.at (a_cond) (place result) }
-    ensures parsed { Parsed flat_cond (λ t c. Table.Cond t (cond_at c spot.entry.at)) spot.entry.toks.now nodes.old nodes.new spot.entry.at spot.entry.used result }
+pub fn condition(spot: &Spot, nodes: &mut [u64]) -> Read
+    ensures follows { Follows spot.now.toks.now spot.now.at (a_cond) (place result) }
+    ensures parsed { Parsed flat_cond (λ t c. Table.Cond t (cond_at c spot.now.at)) spot.now.toks.now nodes.old nodes.new spot.now.at spot.now.used result }
 {
     let (n, r) = conjunction(spot, nodes)?;
-    ors(spot.after(n, r), nodes)
+    ors(&spot.after(n, r), nodes)
 }

@@ -13,9 +13,9 @@ pub trait Entry {
     ghost which: { entries.Entry };
 
     // One of them.
-    fn read(spot: Spot, nodes: &mut [u64]) -> Read
-        ensures follows { Follows spot.entry.toks.now spot.entry.at (an_entry which) (place result) }
-        ensures parsed { Parsed (flat_entry which) (λ t x. Holds which t x spot.entry.at) spot.entry.toks.now nodes.old nodes.new spot.entry.at spot.entry.used result };
+    fn read(spot: &Spot, nodes: &mut [u64]) -> Read
+        ensures follows { Follows spot.now.toks.now spot.now.at (an_entry which) (place result) }
+        ensures parsed { Parsed (flat_entry which) (λ t x. Holds which t x spot.now.at) spot.now.toks.now nodes.old nodes.new spot.now.at spot.now.used result };
 }
 
 pub struct Value;
@@ -23,7 +23,7 @@ pub struct Value;
 impl Entry for Value {
     ghost which = { entries.value };
 
-    fn read(spot: Spot, nodes: &mut [u64]) -> Read {
+    fn read(spot: &Spot, nodes: &mut [u64]) -> Read {
         expression::expr(spot, nodes)
     }
 }
@@ -33,20 +33,20 @@ pub struct Set;
 impl Entry for Set {
     ghost which = { entries.set };
 
-    fn read(spot: Spot, nodes: &mut [u64]) -> Read {
+    fn read(spot: &Spot, nodes: &mut [u64]) -> Read {
         set::set(spot, nodes)
     }
 }
 
 // One or two entries in square brackets.
-pub fn entries<E: Entry>(spot: Spot, nodes: &mut [u64]) -> Read
-    ensures follows { Follows spot.entry.toks.now spot.entry.at (the_entries E.which) (place result) }
-    ensures parsed { Parsed (flat_entries E.which) (λ t x. HoldsAll E.which t x spot.entry.at) spot.entry.toks.now nodes.old nodes.new spot.entry.at spot.entry.used result }
+pub fn entries<E: Entry>(spot: &Spot, nodes: &mut [u64]) -> Read
+    ensures follows { Follows spot.now.toks.now spot.now.at (the_entries E.which) (place result) }
+    ensures parsed { Parsed (flat_entries E.which) (λ t x. HoldsAll E.which t x spot.now.at) spot.now.toks.now nodes.old nodes.new spot.now.at spot.now.used result }
 {
     if spot.peek() != b'[' {
         return Err(spot.at);
     }
-    let (n, left) = E::read(spot.next(), nodes)?;
+    let (n, left) = E::read(&spot.next(), nodes)?;
     let t = token::peek(spot.toks, n);
     if t == b']' {
         return Ok((n + 1, left));
@@ -54,7 +54,7 @@ pub fn entries<E: Entry>(spot: Spot, nodes: &mut [u64]) -> Read
     if t != b',' {
         return Err(n);
     }
-    let (m, r) = E::read(spot.to(n + 1, left + 1), nodes)?;
+    let (m, r) = E::read(&spot.to(n + 1, left + 1), nodes)?;
     if token::peek(spot.toks, m) != b']' {
         return Err(m);
     }

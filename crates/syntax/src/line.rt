@@ -30,10 +30,10 @@ pub fn params(point: Point) -> Members
 }
 
 // The definition whose name stands here.
-pub fn definition(named: Named<{ b'[' }>, nodes: &mut [u64], sums: usize) -> Counted
-    requires sums_le_name { sums ≤ named.spot.at }
-    ensures follows { Follows named.entry.spot.toks.now (named.entry.spot.at + 2) in_definition (place_counted result) }
-    ensures tallied { Tallied written_definition count_definition (λ t d. Definition t d named.entry.spot.at sums) named.entry.spot.toks.now nodes.old nodes.new (named.entry.spot.at + 1) named.entry.spot.used sums result }
+pub fn definition(named: &Named<{ b'[' }>, nodes: &mut [u64], sums: usize) -> Counted
+    requires sums_le_name { sums ≤ named.now.spot.at }
+    ensures follows { Follows named.now.spot.toks.now (named.now.spot.at + 2) in_definition (place_counted result) }
+    ensures tallied { Tallied written_definition count_definition (λ t d. Definition t d named.now.spot.at sums) named.now.spot.toks.now nodes.old nodes.new (named.now.spot.at + 1) named.now.spot.used sums result }
 {
     let spot = named.spot;
     let open = Point {
@@ -48,7 +48,7 @@ pub fn definition(named: Named<{ b'[' }>, nodes: &mut [u64], sums: usize) -> Cou
         spot: spot.to(n + 1, spot.used),
         sums,
     };
-    let (m, r, s) = process::body(site, nodes)?;
+    let (m, r, s) = process::body(&site, nodes)?;
     if token::peek(spot.toks, m) != b';' {
         return Err(m);
     }
@@ -72,10 +72,10 @@ pub fn defines(point: Point) -> bool
 }
 
 // The definitions, the first of them named here, and the system line.
-pub fn definitions(named: Named<{ b'[' }>, nodes: &mut [u64], sums: usize) -> Read
-    requires sums_le_name { sums ≤ named.spot.at }
-    ensures follows { Follows named.entry.spot.toks.now (named.entry.spot.at + 2) (in_definition ++ NextLine ∷ []) (place result) }
-    ensures parsed { Parsed flat_definitions (λ t d. Table.Definitions t (definitions_at d named.entry.spot.at sums)) named.entry.spot.toks.now nodes.old nodes.new named.entry.spot.at named.entry.spot.used result }
+pub fn definitions(named: &Named<{ b'[' }>, nodes: &mut [u64], sums: usize) -> Read
+    requires sums_le_name { sums ≤ named.now.spot.at }
+    ensures follows { Follows named.now.spot.toks.now (named.now.spot.at + 2) (in_definition ++ NextLine ∷ []) (place result) }
+    ensures parsed { Parsed flat_definitions (λ t d. Table.Definitions t (definitions_at d named.now.spot.at sums)) named.now.spot.toks.now nodes.old nodes.new named.now.spot.at named.now.spot.used result }
 {
     let (n, left, s) = definition(named, nodes, sums)?;
     let spot = named.spot.to(n, left + 1);
@@ -84,9 +84,9 @@ pub fn definitions(named: Named<{ b'[' }>, nodes: &mut [u64], sums: usize) -> Re
         at: spot.at,
     };
     let ((m, r), kind) = if defines(next) {
-        (definitions(Named { spot }, nodes, s)?, NodeKind::NEXT)
+        (definitions(&Named { spot }, nodes, s)?, NodeKind::NEXT)
     } else {
-        (system(spot, nodes)?, NodeKind::LAST)
+        (system(&spot, nodes)?, NodeKind::LAST)
     };
     let root = r + 1;
     tree::pair(nodes, root, kind, left);
@@ -94,9 +94,9 @@ pub fn definitions(named: Named<{ b'[' }>, nodes: &mut [u64], sums: usize) -> Re
 }
 
 // Whole numbers parted by commas and the `]` after them, with their count. Beside `process::call` stands why this and `args` there are no one function.
-pub fn wholes(spot: Spot, nodes: &mut [u64]) -> Counted
-    ensures follows { Follows spot.entry.toks.now spot.entry.at (Whole' ∷ MoreWholes ∷ Want kind.close_square ∷ []) (place_counted result) }
-    ensures tallied { Tallied written_wholes (λ w. Table.count_wholes (wholes_at w spot.entry.at)) (λ t w. Table.Wholes t (wholes_at w spot.entry.at)) spot.entry.toks.now nodes.old nodes.new spot.entry.at spot.entry.used 0 result }
+pub fn wholes(spot: &Spot, nodes: &mut [u64]) -> Counted
+    ensures follows { Follows spot.now.toks.now spot.now.at (Whole' ∷ MoreWholes ∷ Want kind.close_square ∷ []) (place_counted result) }
+    ensures tallied { Tallied written_wholes (λ w. Table.count_wholes (wholes_at w spot.now.at)) (λ t w. Table.Wholes t (wholes_at w spot.now.at)) spot.now.toks.now nodes.old nodes.new spot.now.at spot.now.used 0 result }
 {
     let (n, left) = expression::literal(spot, nodes)?;
     let t = token::peek(spot.toks, n);
@@ -106,18 +106,18 @@ pub fn wholes(spot: Spot, nodes: &mut [u64]) -> Counted
     if t != b',' {
         return Err(n);
     }
-    let (m, r, count) = wholes(spot.to(n + 1, left + 1), nodes)?;
+    let (m, r, count) = wholes(&spot.to(n + 1, left + 1), nodes)?;
     let root = r + 1;
     tree::pair(nodes, root, NodeKind::WHOLE, left);
     Ok((m, root, count + 1))
 }
 
 // The values of the item whose name is the token `name`, from the `[` on; `base` is the kind of an item without values. Beside `process::call` stands why this and the reader there are no one function.
-pub fn starts(spot: Spot, nodes: &mut [u64], name: usize, base: u8) -> Read
-    requires name_before { name ≤ spot.at }
+pub fn starts(spot: &Spot, nodes: &mut [u64], name: usize, base: u8) -> Read
+    requires name_before { name ≤ spot.now.at }
     requires base_bound { base < 255 }
-    ensures follows { Follows spot.entry.toks.now spot.entry.at the_starts (place result) }
-    ensures parsed { Parsed flat_starts (λ t s. Started t base name (starts_at s spot.entry.at)) spot.entry.toks.now nodes.old nodes.new spot.entry.at spot.entry.used result }
+    ensures follows { Follows spot.now.toks.now spot.now.at the_starts (place result) }
+    ensures parsed { Parsed flat_starts (λ t s. Started t base name (starts_at s spot.now.at)) spot.now.toks.now nodes.old nodes.new spot.now.at spot.now.used result }
 {
     if spot.peek() != b'[' {
         return Err(spot.at);
@@ -127,20 +127,20 @@ pub fn starts(spot: Spot, nodes: &mut [u64], name: usize, base: u8) -> Read
         tree::leaf(nodes, spot.used, base, name);
         return Ok((n + 1, spot.used));
     }
-    let (m, r, count) = wholes(spot.to(n, spot.used), nodes)?;
+    let (m, r, count) = wholes(&spot.to(n, spot.used), nodes)?;
     let root = r + 1;
     tree::node(nodes, root, base + 1, name, 0, count);
     Ok((m, root))
 }
 
 // An item of the system line.
-pub fn start(spot: Spot, nodes: &mut [u64]) -> Read
-    ensures follows { Follows spot.entry.toks.now spot.entry.at (Start' ∷ []) (place result) }
-    ensures parsed { Parsed flat_start (λ t s. Table.Start t (start_at s spot.entry.at)) spot.entry.toks.now nodes.old nodes.new spot.entry.at spot.entry.used result }
+pub fn start(spot: &Spot, nodes: &mut [u64]) -> Read
+    ensures follows { Follows spot.now.toks.now spot.now.at (Start' ∷ []) (place result) }
+    ensures parsed { Parsed flat_start (λ t s. Table.Start t (start_at s spot.now.at)) spot.now.toks.now nodes.old nodes.new spot.now.at spot.now.used result }
 {
     let t = spot.peek();
     if t == Kind::NAME {
-        return starts(spot.next(), nodes, spot.at, NodeKind::START);
+        return starts(&spot.next(), nodes, spot.at, NodeKind::START);
     }
     if t != Kind::WHOLE {
         return Err(spot.at);
@@ -153,13 +153,13 @@ pub fn start(spot: Spot, nodes: &mut [u64]) -> Read
     if token::peek(spot.toks, name) != Kind::NAME {
         return Err(name);
     }
-    starts(spot.to(name + 1, spot.used), nodes, name, NodeKind::COUNTED)
+    starts(&spot.to(name + 1, spot.used), nodes, name, NodeKind::COUNTED)
 }
 
 // The items of the system line, with its `;`. Beside `process::items` stands why this and the reader there are no one function.
-pub fn system(spot: Spot, nodes: &mut [u64]) -> Read
-    ensures follows { Follows spot.entry.toks.now spot.entry.at (Start' ∷ SystemEnd ∷ []) (place result) }
-    ensures parsed { Parsed flat_system (λ t s. Table.System t (system_at s spot.entry.at)) spot.entry.toks.now nodes.old nodes.new spot.entry.at spot.entry.used result }
+pub fn system(spot: &Spot, nodes: &mut [u64]) -> Read
+    ensures follows { Follows spot.now.toks.now spot.now.at (Start' ∷ SystemEnd ∷ []) (place result) }
+    ensures parsed { Parsed flat_system (λ t s. Table.System t (system_at s spot.now.at)) spot.now.toks.now nodes.old nodes.new spot.now.at spot.now.used result }
 {
     let (n, left) = start(spot, nodes)?;
     let t = token::peek(spot.toks, n);
@@ -169,7 +169,7 @@ pub fn system(spot: Spot, nodes: &mut [u64]) -> Read
     if t != Kind::BARS {
         return Err(n);
     }
-    let (m, r) = system(spot.to(n + 1, left + 1), nodes)?;
+    let (m, r) = system(&spot.to(n + 1, left + 1), nodes)?;
     let root = r + 1;
     tree::pair(nodes, root, NodeKind::SYSTEM, left);
     Ok((m, root))
@@ -177,9 +177,9 @@ pub fn system(spot: Spot, nodes: &mut [u64]) -> Read
 
 // Variables, definitions and system line.
 #[cycle(model_variable)]
-pub fn model(spot: Spot, nodes: &mut [u64]) -> Read
-    ensures follows { Follows spot.entry.toks.now spot.entry.at (Line ∷ []) (place result) }
-    ensures parsed { Parsed flat_model (λ t m. Table.Model t (model_at m spot.entry.at)) spot.entry.toks.now nodes.old nodes.new spot.entry.at spot.entry.used result }
+pub fn model(spot: &Spot, nodes: &mut [u64]) -> Read
+    ensures follows { Follows spot.now.toks.now spot.now.at (Line ∷ []) (place result) }
+    ensures parsed { Parsed flat_model (λ t m. Table.Model t (model_at m spot.now.at)) spot.now.toks.now nodes.old nodes.new spot.now.at spot.now.used result }
 {
     if spot.peek() != Kind::NAME {
         return Err(spot.at);
@@ -187,26 +187,26 @@ pub fn model(spot: Spot, nodes: &mut [u64]) -> Read
     let n = spot.at + 1;
     let t = token::peek(spot.toks, n);
     if t == b'[' {
-        return definitions(Named { spot }, nodes, 0);
+        return definitions(&Named { spot: *spot }, nodes, 0);
     }
     if t != b'=' {
         return Err(n);
     }
-    variable(Named { spot }, nodes)
+    variable(&Named { spot: *spot }, nodes)
 }
 
 // The variable named here, and what follows it.
 #[cycle(model_variable)]
-pub fn variable(named: Named<{ b'=' }>, nodes: &mut [u64]) -> Read
-    ensures follows { Follows named.entry.spot.toks.now (named.entry.spot.at + 2) (Number' ∷ Want kind.semicolon ∷ Line ∷ []) (place result) }
-    ensures parsed { Parsed flat_model (λ t m. Table.Model t (model_at m named.entry.spot.at)) named.entry.spot.toks.now nodes.old nodes.new named.entry.spot.at named.entry.spot.used result }
+pub fn variable(named: &Named<{ b'=' }>, nodes: &mut [u64]) -> Read
+    ensures follows { Follows named.now.spot.toks.now (named.now.spot.at + 2) (Number' ∷ Want kind.semicolon ∷ Line ∷ []) (place result) }
+    ensures parsed { Parsed flat_model (λ t m. Table.Model t (model_at m named.now.spot.at)) named.now.spot.toks.now nodes.old nodes.new named.now.spot.at named.now.spot.used result }
 {
     let spot = named.spot;
-    let (n, left) = rate::number(spot.to(spot.at + 2, spot.used), nodes)?;
+    let (n, left) = rate::number(&spot.to(spot.at + 2, spot.used), nodes)?;
     if token::peek(spot.toks, n) != b';' {
         return Err(n);
     }
-    let (m, r) = model(spot.to(n + 1, left + 1), nodes)?;
+    let (m, r) = model(&spot.to(n + 1, left + 1), nodes)?;
     let root = r + 1;
     tree::node(nodes, root, NodeKind::VARIABLE, spot.at, left, 0);
     Ok((m, root))
@@ -222,7 +222,7 @@ pub fn read_text(toks: &[u8], nodes: &mut [u64]) -> Result<usize, usize>
         at: 0,
         used: 0,
     };
-    let (n, r) = model(spot, nodes)?;
+    let (n, r) = model(&spot, nodes)?;
     if n < toks.len() {
         return Err(n);
     }

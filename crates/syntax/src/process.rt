@@ -18,10 +18,10 @@ use tree::{Counted, NodeKind, Read};
 
 // A guarded prefix. It has a token more than it needs for its nodes, and for its sums.
 #[cycle(branches_cont_gated_group_item_items_offer_prefix_sum)]
-pub fn prefix(site: Site<1>, nodes: &mut [u64]) -> Counted
-    ensures follows { Follows site.entry.spot.toks.now site.entry.spot.at (a_prefix) (place_counted result) }
-    ensures tallied { Tallied flat_prefix sums_prefix (λ t p. Table.Branch t (branch_at p site.entry.spot.at site.entry.sums)) site.entry.spot.toks.now nodes.old nodes.new site.entry.spot.at site.entry.spot.used site.entry.sums result }
-    ensures spare { Spare site.entry.spot.at site.entry.spot.used site.entry.sums result }
+pub fn prefix(site: &Site<1>, nodes: &mut [u64]) -> Counted
+    ensures follows { Follows site.now.spot.toks.now site.now.spot.at (a_prefix) (place_counted result) }
+    ensures tallied { Tallied flat_prefix sums_prefix (λ t p. Table.Branch t (branch_at p site.now.spot.at site.now.sums)) site.now.spot.toks.now nodes.old nodes.new site.now.spot.at site.now.spot.used site.now.sums result }
+    ensures spare { Spare site.now.spot.at site.now.spot.used site.now.sums result }
 {
     if site.spot.peek() == b'[' {
         return gated(site, nodes);
@@ -31,14 +31,14 @@ pub fn prefix(site: Site<1>, nodes: &mut [u64]) -> Counted
 
 // A prefix with a gate, from its `[` on.
 #[cycle(branches_cont_gated_group_item_items_offer_prefix_sum)]
-pub fn gated(site: Site<1>, nodes: &mut [u64]) -> Counted
-    requires at_value { get_or site.spot.toks.now site.spot.at 0 ≡ kind.open_square }
-    ensures follows { Follows site.entry.spot.toks.now site.entry.spot.at (a_prefix) (place_counted result) }
-    ensures tallied { Tallied flat_prefix sums_prefix (λ t p. Table.Branch t (branch_at p site.entry.spot.at site.entry.sums)) site.entry.spot.toks.now nodes.old nodes.new site.entry.spot.at site.entry.spot.used site.entry.sums result }
-    ensures spare { Spare site.entry.spot.at site.entry.spot.used site.entry.sums result }
+pub fn gated(site: &Site<1>, nodes: &mut [u64]) -> Counted
+    requires at_value { get_or site.now.spot.toks.now site.now.spot.at 0 ≡ kind.open_square }
+    ensures follows { Follows site.now.spot.toks.now site.now.spot.at (a_prefix) (place_counted result) }
+    ensures tallied { Tallied flat_prefix sums_prefix (λ t p. Table.Branch t (branch_at p site.now.spot.at site.now.sums)) site.now.spot.toks.now nodes.old nodes.new site.now.spot.at site.now.spot.used site.now.sums result }
+    ensures spare { Spare site.now.spot.at site.now.spot.used site.now.sums result }
 {
     let spot = site.spot;
-    let (n, left) = condition::condition(spot.next(), nodes)?;
+    let (n, left) = condition::condition(&spot.next(), nodes)?;
     if token::peek(spot.toks, n) != b']' {
         return Err(n);
     }
@@ -50,7 +50,7 @@ pub fn gated(site: Site<1>, nodes: &mut [u64]) -> Counted
         spot: spot.to(arrow + 1, left + 1),
         sums: site.sums,
     };
-    let (m, r, s) = offer(inner, nodes, spot.at)?;
+    let (m, r, s) = offer(&inner, nodes, spot.at)?;
     let root = r + 1;
     tree::node(nodes, root, NodeKind::GATE, spot.at, left, 0);
     Ok((m, root, s))
@@ -58,17 +58,17 @@ pub fn gated(site: Site<1>, nodes: &mut [u64]) -> Counted
 
 // Action and rate in their braces, and the continuation, if any; `first` is the first token of the prefix.
 #[cycle(branches_cont_gated_group_item_items_offer_prefix_sum)]
-pub fn offer(site: Site<1>, nodes: &mut [u64], first: usize) -> Counted
-    requires first_le_at { first ≤ site.spot.at }
-    ensures follows { Follows site.entry.spot.toks.now site.entry.spot.at (Want kind.open_curly ∷ in_braces) (place_counted result) }
-    ensures tallied { Tallied flat_offer sums_offer (λ t o. Table.Branch t (offer_at first o site.entry.spot.at site.entry.sums)) site.entry.spot.toks.now nodes.old nodes.new site.entry.spot.at site.entry.spot.used site.entry.sums result }
-    ensures spare { Spare site.entry.spot.at site.entry.spot.used site.entry.sums result }
+pub fn offer(site: &Site<1>, nodes: &mut [u64], first: usize) -> Counted
+    requires first_le_at { first ≤ site.now.spot.at }
+    ensures follows { Follows site.now.spot.toks.now site.now.spot.at (Want kind.open_curly ∷ in_braces) (place_counted result) }
+    ensures tallied { Tallied flat_offer sums_offer (λ t o. Table.Branch t (offer_at first o site.now.spot.at site.now.sums)) site.now.spot.toks.now nodes.old nodes.new site.now.spot.at site.now.spot.used site.now.sums result }
+    ensures spare { Spare site.now.spot.at site.now.spot.used site.now.sums result }
 {
     let spot = site.spot;
     if spot.peek() != b'{' {
         return Err(spot.at);
     }
-    let (point, middle, left) = braced::braced(spot.next(), nodes)?;
+    let (point, middle, left) = braced::braced(&spot.next(), nodes)?;
     if token::peek(spot.toks, point) != b'.' {
         let root = middle + 1;
         tree::node(nodes, root, NodeKind::STOP, first, left, 0);
@@ -78,7 +78,7 @@ pub fn offer(site: Site<1>, nodes: &mut [u64], first: usize) -> Counted
         spot: spot.to(point + 1, middle + 1),
         sums: site.sums,
     };
-    let (e, r, s) = cont(next, nodes)?;
+    let (e, r, s) = cont(&next, nodes)?;
     let root = r + 1;
     tree::node(nodes, root, NodeKind::DOT, first, left, middle);
     Ok((e, root, s))
@@ -86,20 +86,20 @@ pub fn offer(site: Site<1>, nodes: &mut [u64], first: usize) -> Counted
 
 // A continuation: a group, a call, or a prefix as a sum of its own.
 #[cycle(branches_cont_gated_group_item_items_offer_prefix_sum)]
-pub fn cont(site: Site<0>, nodes: &mut [u64]) -> Counted
-    ensures follows { Follows site.entry.spot.toks.now site.entry.spot.at (Cont' ∷ []) (place_counted result) }
-    ensures tallied { Tallied flat_cont sums_cont (λ t c. Table.Cont t (cont_at c site.entry.spot.at site.entry.sums)) site.entry.spot.toks.now nodes.old nodes.new site.entry.spot.at site.entry.spot.used site.entry.sums result }
+pub fn cont(site: &Site<0>, nodes: &mut [u64]) -> Counted
+    ensures follows { Follows site.now.spot.toks.now site.now.spot.at (Cont' ∷ []) (place_counted result) }
+    ensures tallied { Tallied flat_cont sums_cont (λ t c. Table.Cont t (cont_at c site.now.spot.at site.now.sums)) site.now.spot.toks.now nodes.old nodes.new site.now.spot.at site.now.spot.used site.now.sums result }
 {
-    let Site { spot, sums } = site;
+    let Site { spot, sums } = *site;
     match spot.peek() {
         b'(' => group(site, nodes),
-        Kind::NAME => call(spot, nodes, sums),
+        Kind::NAME => call(&spot, nodes, sums),
         _ => {
             let inner = Site {
                 spot,
                 sums: sums + 1,
             };
-            let (n, r, s) = prefix(inner, nodes)?;
+            let (n, r, s) = prefix(&inner, nodes)?;
             let root = r + 1;
             tree::node(nodes, root, NodeKind::SUM, sums, 0, spot.at);
             Ok((n, root, s))
@@ -109,10 +109,10 @@ pub fn cont(site: Site<0>, nodes: &mut [u64]) -> Counted
 
 // A call, from its name on.
 // One generic function for this and `line::starts`, and one for `args` and `line::wholes`, would be longer than the four: a trait with a reader and a kind, and sixteen definitions of what each reads.
-pub fn call(spot: Spot, nodes: &mut [u64], sums: usize) -> Counted
-    requires at_value { get_or spot.toks.now spot.at 0 ≡ kind.name }
-    ensures follows { Follows spot.entry.toks.now (spot.entry.at + 1) (the_args) (place_counted result) }
-    ensures tallied { Tallied flat_call (λ a. 0) (λ t a. Table.Cont t (call_at a spot.entry.at)) spot.entry.toks.now nodes.old nodes.new spot.entry.at spot.entry.used sums result }
+pub fn call(spot: &Spot, nodes: &mut [u64], sums: usize) -> Counted
+    requires at_value { get_or spot.now.toks.now spot.now.at 0 ≡ kind.name }
+    ensures follows { Follows spot.now.toks.now (spot.now.at + 1) (the_args) (place_counted result) }
+    ensures tallied { Tallied flat_call (λ a. 0) (λ t a. Table.Cont t (call_at a spot.now.at)) spot.now.toks.now nodes.old nodes.new spot.now.at spot.now.used sums result }
 {
     let open = spot.at + 1;
     if token::peek(spot.toks, open) != b'[' {
@@ -123,16 +123,16 @@ pub fn call(spot: Spot, nodes: &mut [u64], sums: usize) -> Counted
         tree::leaf(nodes, spot.used, NodeKind::CALL, spot.at);
         return Ok((n + 1, spot.used, sums));
     }
-    let (m, r, count) = args(spot.to(n, spot.used), nodes)?;
+    let (m, r, count) = args(&spot.to(n, spot.used), nodes)?;
     let root = r + 1;
     tree::node(nodes, root, NodeKind::CALL_WITH, spot.at, 0, count);
     Ok((m, root, sums))
 }
 
 // Values parted by commas and the `]` after them, with their count.
-pub fn args(spot: Spot, nodes: &mut [u64]) -> Counted
-    ensures follows { Follows spot.entry.toks.now spot.entry.at (an_expr ++ MoreArgs ∷ Want kind.close_square ∷ []) (place_counted result) }
-    ensures tallied { Tallied closed_exprs (λ e. Table.count_exprs (exprs_at e spot.entry.at)) (λ t e. Table.Exprs t (exprs_at e spot.entry.at)) spot.entry.toks.now nodes.old nodes.new spot.entry.at spot.entry.used 0 result }
+pub fn args(spot: &Spot, nodes: &mut [u64]) -> Counted
+    ensures follows { Follows spot.now.toks.now spot.now.at (an_expr ++ MoreArgs ∷ Want kind.close_square ∷ []) (place_counted result) }
+    ensures tallied { Tallied closed_exprs (λ e. Table.count_exprs (exprs_at e spot.now.at)) (λ t e. Table.Exprs t (exprs_at e spot.now.at)) spot.now.toks.now nodes.old nodes.new spot.now.at spot.now.used 0 result }
 {
     let (n, left) = expression::expr(spot, nodes)?;
     let t = token::peek(spot.toks, n);
@@ -142,7 +142,7 @@ pub fn args(spot: Spot, nodes: &mut [u64]) -> Counted
     if t != b',' {
         return Err(n);
     }
-    let (m, r, count) = args(spot.to(n + 1, left + 1), nodes)?;
+    let (m, r, count) = args(&spot.to(n + 1, left + 1), nodes)?;
     let root = r + 1;
     tree::pair(nodes, root, NodeKind::ARGUMENT, left);
     Ok((m, root, count + 1))
@@ -150,16 +150,16 @@ pub fn args(spot: Spot, nodes: &mut [u64]) -> Counted
 
 // A group, from its `(` on.
 #[cycle(branches_cont_gated_group_item_items_offer_prefix_sum)]
-pub fn group(site: Site<0>, nodes: &mut [u64]) -> Counted
-    requires at_value { get_or site.spot.toks.now site.spot.at 0 ≡ kind.open_round }
-    ensures follows { Follows site.entry.spot.toks.now (site.entry.spot.at + 1) (Item' ∷ Items' ∷ []) (place_counted result) }
-    ensures tallied { Tallied flat_group sums_item_list (λ t g. Table.Cont t (group_at g site.entry.spot.at site.entry.sums)) site.entry.spot.toks.now nodes.old nodes.new site.entry.spot.at site.entry.spot.used site.entry.sums result }
+pub fn group(site: &Site<0>, nodes: &mut [u64]) -> Counted
+    requires at_value { get_or site.now.spot.toks.now site.now.spot.at 0 ≡ kind.open_round }
+    ensures follows { Follows site.now.spot.toks.now (site.now.spot.at + 1) (Item' ∷ Items' ∷ []) (place_counted result) }
+    ensures tallied { Tallied flat_group sums_item_list (λ t g. Table.Cont t (group_at g site.now.spot.at site.now.sums)) site.now.spot.toks.now nodes.old nodes.new site.now.spot.at site.now.spot.used site.now.sums result }
 {
     let inner = Site {
         spot: site.spot.next(),
         sums: site.sums,
     };
-    let (n, r, s) = items(inner, nodes)?;
+    let (n, r, s) = items(&inner, nodes)?;
     let root = r + 1;
     tree::node(nodes, root, NodeKind::GROUP, site.spot.at, 0, 0);
     Ok((n, root, s))
@@ -168,9 +168,9 @@ pub fn group(site: Site<0>, nodes: &mut [u64]) -> Counted
 // The items of a group and its `)`.
 // Not one generic function with `line::system`, nor `branches` with `body`: the borrow checker covers no cycle of calls that goes through a trait's method.
 #[cycle(branches_cont_gated_group_item_items_offer_prefix_sum)]
-pub fn items(site: Site<0>, nodes: &mut [u64]) -> Counted
-    ensures follows { Follows site.entry.spot.toks.now site.entry.spot.at (Item' ∷ Items' ∷ []) (place_counted result) }
-    ensures tallied { Tallied flat_item_list sums_item_list (λ t g. Table.Conts t (item_list_at g site.entry.spot.at site.entry.sums)) site.entry.spot.toks.now nodes.old nodes.new site.entry.spot.at site.entry.spot.used site.entry.sums result }
+pub fn items(site: &Site<0>, nodes: &mut [u64]) -> Counted
+    ensures follows { Follows site.now.spot.toks.now site.now.spot.at (Item' ∷ Items' ∷ []) (place_counted result) }
+    ensures tallied { Tallied flat_item_list sums_item_list (λ t g. Table.Conts t (item_list_at g site.now.spot.at site.now.sums)) site.now.spot.toks.now nodes.old nodes.new site.now.spot.at site.now.spot.used site.now.sums result }
 {
     let spot = site.spot;
     let (n, left, s) = item(site, nodes)?;
@@ -185,7 +185,7 @@ pub fn items(site: Site<0>, nodes: &mut [u64]) -> Counted
         spot: spot.to(n + 1, left + 1),
         sums: s,
     };
-    let (m, r, q) = items(next, nodes)?;
+    let (m, r, q) = items(&next, nodes)?;
     let root = r + 1;
     tree::pair(nodes, root, NodeKind::ITEM, left);
     Ok((m, root, q))
@@ -193,29 +193,29 @@ pub fn items(site: Site<0>, nodes: &mut [u64]) -> Counted
 
 // An item of a group: a group, a call or a sum.
 #[cycle(branches_cont_gated_group_item_items_offer_prefix_sum)]
-pub fn item(site: Site<0>, nodes: &mut [u64]) -> Counted
-    ensures follows { Follows site.entry.spot.toks.now site.entry.spot.at (Item' ∷ []) (place_counted result) }
-    ensures tallied { Tallied flat_item sums_item (λ t i. Table.Cont t (item_at i site.entry.spot.at site.entry.sums)) site.entry.spot.toks.now nodes.old nodes.new site.entry.spot.at site.entry.spot.used site.entry.sums result }
+pub fn item(site: &Site<0>, nodes: &mut [u64]) -> Counted
+    ensures follows { Follows site.now.spot.toks.now site.now.spot.at (Item' ∷ []) (place_counted result) }
+    ensures tallied { Tallied flat_item sums_item (λ t i. Table.Cont t (item_at i site.now.spot.at site.now.sums)) site.now.spot.toks.now nodes.old nodes.new site.now.spot.at site.now.spot.used site.now.sums result }
 {
     match site.spot.peek() {
         b'(' => group(site, nodes),
-        Kind::NAME => call(site.spot, nodes, site.sums),
+        Kind::NAME => call(&site.spot, nodes, site.sums),
         _ => sum(site, nodes),
     }
 }
 
 // Prefixes joined by `+`, with their number.
 #[cycle(branches_cont_gated_group_item_items_offer_prefix_sum)]
-pub fn sum(site: Site<0>, nodes: &mut [u64]) -> Counted
-    ensures follows { Follows site.entry.spot.toks.now site.entry.spot.at (a_sum) (place_counted result) }
-    ensures tallied { Tallied written_sum count_sum (λ t x. Table.Sum t (sum_at x.0 x.1 site.entry.spot.at site.entry.sums)) site.entry.spot.toks.now nodes.old nodes.new site.entry.spot.at site.entry.spot.used site.entry.sums result }
+pub fn sum(site: &Site<0>, nodes: &mut [u64]) -> Counted
+    ensures follows { Follows site.now.spot.toks.now site.now.spot.at (a_sum) (place_counted result) }
+    ensures tallied { Tallied written_sum count_sum (λ t x. Table.Sum t (sum_at x.0 x.1 site.now.spot.at site.now.sums)) site.now.spot.toks.now nodes.old nodes.new site.now.spot.at site.now.spot.used site.now.sums result }
 {
-    let Site { spot, sums } = site;
+    let Site { spot, sums } = *site;
     let inner = Site {
         spot,
         sums: sums + 1,
     };
-    let (n, r, s) = branches(inner, nodes)?;
+    let (n, r, s) = branches(&inner, nodes)?;
     let root = r + 1;
     tree::node(nodes, root, NodeKind::SUM, sums, 0, spot.at);
     Ok((n, root, s))
@@ -223,10 +223,10 @@ pub fn sum(site: Site<0>, nodes: &mut [u64]) -> Counted
 
 // Prefixes joined by `+`.
 #[cycle(branches_cont_gated_group_item_items_offer_prefix_sum)]
-pub fn branches(site: Site<1>, nodes: &mut [u64]) -> Counted
-    ensures follows { Follows site.entry.spot.toks.now site.entry.spot.at (a_sum) (place_counted result) }
-    ensures tallied { Tallied written_sum sums_branches (λ t x. Table.Branches t (branches_from x site.entry.spot.at site.entry.sums)) site.entry.spot.toks.now nodes.old nodes.new site.entry.spot.at site.entry.spot.used site.entry.sums result }
-    ensures spare { Spare site.entry.spot.at site.entry.spot.used site.entry.sums result }
+pub fn branches(site: &Site<1>, nodes: &mut [u64]) -> Counted
+    ensures follows { Follows site.now.spot.toks.now site.now.spot.at (a_sum) (place_counted result) }
+    ensures tallied { Tallied written_sum sums_branches (λ t x. Table.Branches t (branches_from x site.now.spot.at site.now.sums)) site.now.spot.toks.now nodes.old nodes.new site.now.spot.at site.now.spot.used site.now.sums result }
+    ensures spare { Spare site.now.spot.at site.now.spot.used site.now.sums result }
 {
     let spot = site.spot;
     let (n, left, s) = prefix(site, nodes)?;
@@ -237,16 +237,16 @@ pub fn branches(site: Site<1>, nodes: &mut [u64]) -> Counted
         spot: spot.to(n + 1, left + 1),
         sums: s,
     };
-    let (m, r, q) = branches(next, nodes)?;
+    let (m, r, q) = branches(&next, nodes)?;
     let root = r + 1;
     tree::pair(nodes, root, NodeKind::CHOICE, left);
     Ok((m, root, q))
 }
 
 // A definition's body: sums joined by `||`.
-pub fn body(site: Site<0>, nodes: &mut [u64]) -> Counted
-    ensures follows { Follows site.entry.spot.toks.now site.entry.spot.at (a_body) (place_counted result) }
-    ensures tallied { Tallied flat_body sums_body (λ t b. Table.Sums t (body_at b site.entry.spot.at site.entry.sums)) site.entry.spot.toks.now nodes.old nodes.new site.entry.spot.at site.entry.spot.used site.entry.sums result }
+pub fn body(site: &Site<0>, nodes: &mut [u64]) -> Counted
+    ensures follows { Follows site.now.spot.toks.now site.now.spot.at (a_body) (place_counted result) }
+    ensures tallied { Tallied flat_body sums_body (λ t b. Table.Sums t (body_at b site.now.spot.at site.now.sums)) site.now.spot.toks.now nodes.old nodes.new site.now.spot.at site.now.spot.used site.now.sums result }
 {
     let spot = site.spot;
     let (n, left, s) = sum(site, nodes)?;
@@ -257,7 +257,7 @@ pub fn body(site: Site<0>, nodes: &mut [u64]) -> Counted
         spot: spot.to(n + 1, left + 1),
         sums: s,
     };
-    let (m, r, q) = body(next, nodes)?;
+    let (m, r, q) = body(&next, nodes)?;
     let root = r + 1;
     tree::pair(nodes, root, NodeKind::BESIDE, left);
     Ok((m, root, q))

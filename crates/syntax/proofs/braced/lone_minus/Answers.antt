@@ -9,16 +9,16 @@ use Rattle.syntax.proofs.braced.lone_minus.Goals as goal
 pub undecided-requires : goal.undecided-requires
 unfolding number_kind
 undecided-requires c =
-    record { either = either-negative c.args.named.spot.toks.now (c.args.named.spot.at + 1 + 1) c.requires.at_value_2 (same c.peek.ensures c.in-2.is) }
+    record { either = either-negative c.args.named.now.spot.toks.now (c.args.named.now.spot.at + 1 + 1) c.requires.at_value_2 (same c.peek.ensures c.in-2.is) }
 
 pub returns-in-2 : goal.returns-in-2
 returns-in-2 c =
-    let r = lone-negative c.args.named.spot.toks.now c.args.nodes.now c.args.named.spot.at c.args.named.spot.used (c.args.named.name, c.args.named.sign) _ _ c.requires.at_value_2 (same c.peek.ensures c.in-2.is) (c.undecided.ensures.follows, c.undecided.ensures.inside) in record { follows = r.0; inside = r.1 }
+    let r = lone-negative c.args.named.now.spot.toks.now c.args.nodes.now c.args.named.now.spot.at c.args.named.now.spot.used (c.args.named.now.name, c.args.named.now.sign) _ _ c.requires.at_value_2 (same c.peek.ensures c.in-2.is) (c.undecided.ensures.follows, c.undecided.ensures.inside) in record { follows = r.0; inside = r.1 }
 
 pub returns-in-3 : goal.returns-in-3
 returns-in-3 c =
-    let r = lone-negative-decimal c.args.named.spot.toks.now c.args.nodes.now c.args.named.spot.at c.args.named.spot.used (c.args.named.name, c.args.named.sign) (record { written = c.leaf.ensures; token-fits = omega (arith, c.args.named.spot.ready.room, c.args.named.spot.ready.few, c.args.named.spot.ready.inside); left-fits = omega arith; third-fits = omega arith }) _ _ (rw c.after.ensures.1 at c.closed.ensures.follows, (rw c.after.ensures.1 at c.closed.ensures.tallied, (rw c.after.ensures.1 at c.closed.ensures.spare))) c.requires.at_value_2 (same c.peek.ensures c.in-3.is) in record { follows = r.0; inside = r.1 }
+    let r = lone-negative-decimal c.args.named.now.spot.toks.now c.args.nodes.now c.args.named.now.spot.at c.args.named.now.spot.used (c.args.named.now.name, c.args.named.now.sign) (record { written = c.leaf.ensures; token-fits = omega (arith, c.args.named.now.spot.ready.room, c.args.named.now.spot.ready.few, c.args.named.now.spot.ready.inside); left-fits = omega arith; third-fits = omega arith }) _ _ (rw c.after.ensures.1 at c.closed.ensures.follows, (rw c.after.ensures.1 at c.closed.ensures.tallied, (rw c.after.ensures.1 at c.closed.ensures.spare))) c.requires.at_value_2 (same c.peek.ensures c.in-3.is) in record { follows = r.0; inside = r.1 }
 
 pub returns-in_default : goal.returns-in_default
 returns-in_default c =
-    let r = lone-signless c.args.named.spot.toks.now c.args.nodes.now c.args.named.spot.at c.args.named.spot.used (c.args.named.name, c.args.named.sign) c.requires.at_value_2 (isnt c.peek.ensures (omega arith)) (isnt c.peek.ensures (omega arith)) in record { follows = r.0; inside = r.1 }
+    let r = lone-signless c.args.named.now.spot.toks.now c.args.nodes.now c.args.named.now.spot.at c.args.named.now.spot.used (c.args.named.now.name, c.args.named.now.sign) c.requires.at_value_2 (isnt c.peek.ensures (omega arith)) (isnt c.peek.ensures (omega arith)) in record { follows = r.0; inside = r.1 }

@@ -5,8 +5,8 @@ use Rattle.syntax.proofs.braced.rest.Goals as goal
 
 pub returns-in_err-n : goal.returns-in_err-n
 returns-in_err-n c =
-    rw (raised c.from_residual.ensures.1) (let r = rest-fault c.args.left.toks.now c.args.nodes.now _ c.args.left.at c.args.left.root (c.factors.ensures.follows, c.factors.ensures.extended) c.in_err-n.was in record { follows = r.0; extended = r.1 })
+    rw (raised c.from_residual.ensures.1) (let r = rest-fault c.args.left.now.toks.now c.args.nodes.now _ c.args.left.now.at c.args.left.now.root (c.factors.ensures.follows, c.factors.ensures.extended) c.in_err-n.was in record { follows = r.0; extended = r.1 })
 
 pub returns : goal.returns
 returns c =
-    let r = rest-made c.args.left.toks.now c.args.nodes.now _ c.args.left.at c.args.left.root (c.factors.ensures.follows, c.factors.ensures.extended) c.in_ok-n.was _ _ (rw (c.after.ensures.1, c.spot-spot.ensures.1) at c.terms.ensures.follows, rw (c.after.ensures.1, c.spot-spot.ensures.1) at c.terms.ensures.extended) in record { follows = r.0; extended = r.1 }
+    let r = rest-made c.args.left.now.toks.now c.args.nodes.now _ c.args.left.now.at c.args.left.now.root (c.factors.ensures.follows, c.factors.ensures.extended) c.in_ok-n.was _ _ (rw (c.after.ensures.1, c.spot-spot.ensures.1) at c.terms.ensures.follows, rw (c.after.ensures.1, c.spot-spot.ensures.1) at c.terms.ensures.extended) in record { follows = r.0; extended = r.1 }

@@ -4,4 +4,4 @@ use lib.ListN.{length}
 use Rattle.syntax.proofs.condition.+ands.Given as goal
 
 abbrev pub decreases-ands : goal.decreases-ands
-decreases-ands l = length l.left.toks.now - l.left.at
+decreases-ands l = length l.left.now.toks.now - l.left.now.at

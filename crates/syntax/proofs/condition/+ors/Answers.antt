@@ -6,7 +6,7 @@ use Rattle.syntax.proofs.condition.+ors.Goals as goal
 
 pub returns-then-peek-ne124 : goal.returns-then-peek-ne124
 returns-then-peek-ne124 t c =
-    let r = ors-none _ _ _ _ c.args.left.ready.inside (isnt (rw c.spot-spot.ensures.1 at c.peek.ensures) c.if-peek-ne124.true) in record { follows = r.0; extended = r.1 }
+    let r = ors-none _ _ _ _ c.args.left.now.ready.inside (isnt (rw c.spot-spot.ensures.1 at c.peek.ensures) c.if-peek-ne124.true) in record { follows = r.0; extended = r.1 }
 
 pub returns-in_err-n : goal.returns-in_err-n
 returns-in_err-n t c =
@@ -14,4 +14,4 @@ returns-in_err-n t c =
 
 pub returns : goal.returns
 returns t c =
-    let r = ors-more _ _ _ _ _ (same (rw c.spot-spot.ensures.1 at c.peek.ensures) c.if-peek-ne124.false) (rw (c.next.ensures.1, c.spot-spot.ensures.1) at c.conjunction.ensures.follows, rw (c.next.ensures.1, c.spot-spot.ensures.1) at c.conjunction.ensures.parsed) _ _ _ c.in_ok-n.was (record { written = c.pair.ensures; token-fits = omega arith; left-fits = omega (arith, c.args.left.ready.inside, c.args.left.ready.room, c.args.left.ready.few); third-fits = omega arith }) (rw (c.after.ensures.1, c.spot-spot.ensures.1) at c.ors.ensures.follows, rw (c.after.ensures.1, c.spot-spot.ensures.1) at c.ors.ensures.extended) in record { follows = r.0; extended = r.1 }
+    let r = ors-more _ _ _ _ _ (same (rw c.spot-spot.ensures.1 at c.peek.ensures) c.if-peek-ne124.false) (rw (c.next.ensures.1, c.spot-spot.ensures.1) at c.conjunction.ensures.follows, rw (c.next.ensures.1, c.spot-spot.ensures.1) at c.conjunction.ensures.parsed) _ _ _ c.in_ok-n.was (record { written = c.pair.ensures; token-fits = omega arith; left-fits = omega (arith, c.args.left.now.ready.inside, c.args.left.now.ready.room, c.args.left.now.ready.few); third-fits = omega arith }) (rw (c.after.ensures.1, c.spot-spot.ensures.1) at c.ors.ensures.follows, rw (c.after.ensures.1, c.spot-spot.ensures.1) at c.ors.ensures.extended) in record { follows = r.0; extended = r.1 }

@@ -9,4 +9,4 @@ returns-then-peek-eq126 c =
 
 pub returns : goal.returns
 returns c =
-    let r = test_plain _ _ _ _ _ _ c.args.spot.ready.inside (isnt c.peek.ensures c.if-peek-eq126.false) (c.compare-2.ensures.follows, c.compare-2.ensures.parsed) in record { follows = r.0; parsed = r.1 }
+    let r = test_plain _ _ _ _ _ _ c.args.spot.now.ready.inside (isnt c.peek.ensures c.if-peek-eq126.false) (c.compare-2.ensures.follows, c.compare-2.ensures.parsed) in record { follows = r.0; parsed = r.1 }

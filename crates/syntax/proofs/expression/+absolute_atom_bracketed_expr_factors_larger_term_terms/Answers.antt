@@ -11,7 +11,7 @@ use Rattle.syntax.proofs.expression.+absolute_atom_bracketed_expr_factors_larger
 
 pub absolute-returns-then-peek-ne40 : goal.absolute-returns-then-peek-ne40
 absolute-returns-then-peek-ne40 t c =
-    let r = absolute-stray _ _ _ _ c.args.spot.ready.inside (isnt c.peek.ensures c.if-peek-ne40.true) in record { follows = r.0; parsed = r.1 }
+    let r = absolute-stray _ _ _ _ c.args.spot.now.ready.inside (isnt c.peek.ensures c.if-peek-ne40.true) in record { follows = r.0; parsed = r.1 }
 
 pub absolute-returns-in_err-n : goal.absolute-returns-in_err-n
 absolute-returns-in_err-n t c =
@@ -23,7 +23,7 @@ absolute-returns t c =
 
 pub atom-returns-in-1 : goal.atom-returns-in-1
 atom-returns-in-1 t c =
-    let r = atom-name _ _ _ _ _ (same c.peek.ensures c.in-1.is) (record { written = c.leaf.ensures; token-fits = omega (arith, c.args.spot.ready.inside, c.args.spot.ready.room, c.args.spot.ready.few); left-fits = omega arith; third-fits = omega arith }) in record { follows = r.0; parsed = r.1 }
+    let r = atom-name _ _ _ _ _ (same c.peek.ensures c.in-1.is) (record { written = c.leaf.ensures; token-fits = omega (arith, c.args.spot.now.ready.inside, c.args.spot.now.ready.room, c.args.spot.now.ready.few); left-fits = omega arith; third-fits = omega arith }) in record { follows = r.0; parsed = r.1 }
 
 pub atom-returns-in-40 : goal.atom-returns-in-40
 atom-returns-in-40 t c =
@@ -70,11 +70,11 @@ expr-returns t c =
 pub factors-returns-in_default : goal.factors-returns-in_default
 unfolding op_kind
 factors-returns-in_default t c =
-    let r = factors-none _ _ _ _ c.args.left.ready.inside (apart product_signs _ (sym c.in_default.is ∙ c.product_kind.ensures ∙ ap (sign_kind product_signs) (rw c.spot-spot.ensures.1 at c.peek.ensures))) in record { follows = r.0; extended = r.1 }
+    let r = factors-none _ _ _ _ c.args.left.now.ready.inside (apart product_signs _ (sym c.in_default.is ∙ c.product_kind.ensures ∙ ap (sign_kind product_signs) (rw c.spot-spot.ensures.1 at c.peek.ensures))) in record { follows = r.0; extended = r.1 }
 
 pub factors-next-requires : goal.factors-next-requires
 factors-next-requires t c =
-    rw c.spot-spot.ensures.1 (ready-token c.args.left.ready (factor-sign _ _ (hit product_signs _ _ (sym c.in-Some.is ∙ c.product_kind.ensures ∙ ap (sign_kind product_signs) (rw c.spot-spot.ensures.1 at c.peek.ensures)))).present)
+    rw c.spot-spot.ensures.1 (ready-token c.args.left.now.ready (factor-sign _ _ (hit product_signs _ _ (sym c.in-Some.is ∙ c.product_kind.ensures ∙ ap (sign_kind product_signs) (rw c.spot-spot.ensures.1 at c.peek.ensures)))).present)
 
 pub factors-returns-in_err-n : goal.factors-returns-in_err-n
 factors-returns-in_err-n t c =
@@ -82,11 +82,11 @@ factors-returns-in_err-n t c =
 
 pub factors-returns : goal.factors-returns
 factors-returns t c =
-    let r = factors-more _ _ _ _ _ _ _ _ _ (hit product_signs _ _ (sym c.in-Some.is ∙ c.product_kind.ensures ∙ ap (sign_kind product_signs) (rw c.spot-spot.ensures.1 at c.peek.ensures))) (rw (c.next.ensures.1, c.spot-spot.ensures.1) at c.atom.ensures.follows, rw (c.next.ensures.1, c.spot-spot.ensures.1) at c.atom.ensures.parsed) c.in_ok-n.was (record { written = c.pair.ensures; token-fits = omega arith; left-fits = omega (arith, c.args.left.ready.inside, c.args.left.ready.room, c.args.left.ready.few); third-fits = omega arith }) (rw (c.after.ensures.1, c.spot-spot.ensures.1) at c.factors.ensures.follows, rw (c.after.ensures.1, c.spot-spot.ensures.1) at c.factors.ensures.extended) in record { follows = r.0; extended = r.1 }
+    let r = factors-more _ _ _ _ _ _ _ _ _ (hit product_signs _ _ (sym c.in-Some.is ∙ c.product_kind.ensures ∙ ap (sign_kind product_signs) (rw c.spot-spot.ensures.1 at c.peek.ensures))) (rw (c.next.ensures.1, c.spot-spot.ensures.1) at c.atom.ensures.follows, rw (c.next.ensures.1, c.spot-spot.ensures.1) at c.atom.ensures.parsed) c.in_ok-n.was (record { written = c.pair.ensures; token-fits = omega arith; left-fits = omega (arith, c.args.left.now.ready.inside, c.args.left.now.ready.room, c.args.left.now.ready.few); third-fits = omega arith }) (rw (c.after.ensures.1, c.spot-spot.ensures.1) at c.factors.ensures.follows, rw (c.after.ensures.1, c.spot-spot.ensures.1) at c.factors.ensures.extended) in record { follows = r.0; extended = r.1 }
 
 pub larger-returns-then-peek-ne40 : goal.larger-returns-then-peek-ne40
 larger-returns-then-peek-ne40 t c =
-    let r = larger-stray _ _ _ _ _ c.args.spot.ready.inside (isnt c.peek.ensures c.if-peek-ne40.true) in record { follows = r.0; parsed = r.1 }
+    let r = larger-stray _ _ _ _ _ c.args.spot.now.ready.inside (isnt c.peek.ensures c.if-peek-ne40.true) in record { follows = r.0; parsed = r.1 }
 
 pub larger-returns-then-peek-ne44 : goal.larger-returns-then-peek-ne44
 larger-returns-then-peek-ne44 t c =
@@ -102,7 +102,7 @@ larger-returns-in_err-m t c =
 
 pub larger-returns : goal.larger-returns
 larger-returns t c =
-    let m = made_of c.in_ok-n.was (rw c.next.ensures.1 at c.expr.ensures.parsed) in let r = larger-made _ _ _ _ _ _ (same c.peek.ensures c.if-peek-ne40.false) (rw c.next.ensures.1 at c.expr.ensures.follows, rw c.next.ensures.1 at c.expr.ensures.parsed) c.in_ok-n.was _ (same c.peek-2.ensures c.if-peek-ne44.false) (rw c.to.ensures.1 at c.bracketed.ensures.follows, rw c.to.ensures.1 at c.bracketed.ensures.parsed) c.in_ok-m.was (record { written = c.pair.ensures; token-fits = omega arith; left-fits = omega (arith, m.span.onward, m.span.within, m.span.more, m.span.fewer, c.args.spot.ready.inside, c.args.spot.ready.room, c.args.spot.ready.few); third-fits = omega arith }) in record { follows = r.0; parsed = r.1 }
+    let m = made_of c.in_ok-n.was (rw c.next.ensures.1 at c.expr.ensures.parsed) in let r = larger-made _ _ _ _ _ _ (same c.peek.ensures c.if-peek-ne40.false) (rw c.next.ensures.1 at c.expr.ensures.follows, rw c.next.ensures.1 at c.expr.ensures.parsed) c.in_ok-n.was _ (same c.peek-2.ensures c.if-peek-ne44.false) (rw c.to.ensures.1 at c.bracketed.ensures.follows, rw c.to.ensures.1 at c.bracketed.ensures.parsed) c.in_ok-m.was (record { written = c.pair.ensures; token-fits = omega arith; left-fits = omega (arith, m.span.onward, m.span.within, m.span.more, m.span.fewer, c.args.spot.now.ready.inside, c.args.spot.now.ready.room, c.args.spot.now.ready.few); third-fits = omega arith }) in record { follows = r.0; parsed = r.1 }
 
 pub term-returns-in_err-n : goal.term-returns-in_err-n
 term-returns-in_err-n t c =
@@ -115,11 +115,11 @@ term-returns t c =
 pub terms-returns-in_default : goal.terms-returns-in_default
 unfolding op_kind
 terms-returns-in_default t c =
-    let r = terms-none _ _ _ _ c.args.left.ready.inside (apart sum_signs _ (sym c.in_default.is ∙ c.sum_kind.ensures ∙ ap (sign_kind sum_signs) (rw c.spot-spot.ensures.1 at c.peek.ensures))) in record { follows = r.0; extended = r.1 }
+    let r = terms-none _ _ _ _ c.args.left.now.ready.inside (apart sum_signs _ (sym c.in_default.is ∙ c.sum_kind.ensures ∙ ap (sign_kind sum_signs) (rw c.spot-spot.ensures.1 at c.peek.ensures))) in record { follows = r.0; extended = r.1 }
 
 pub terms-next-requires : goal.terms-next-requires
 terms-next-requires t c =
-    rw c.spot-spot.ensures.1 (ready-token c.args.left.ready (term-sign _ _ (hit sum_signs _ _ (sym c.in-Some.is ∙ c.sum_kind.ensures ∙ ap (sign_kind sum_signs) (rw c.spot-spot.ensures.1 at c.peek.ensures)))).present)
+    rw c.spot-spot.ensures.1 (ready-token c.args.left.now.ready (term-sign _ _ (hit sum_signs _ _ (sym c.in-Some.is ∙ c.sum_kind.ensures ∙ ap (sign_kind sum_signs) (rw c.spot-spot.ensures.1 at c.peek.ensures)))).present)
 
 pub terms-returns-in_err-n : goal.terms-returns-in_err-n
 terms-returns-in_err-n t c =
@@ -127,4 +127,4 @@ terms-returns-in_err-n t c =
 
 pub terms-returns : goal.terms-returns
 terms-returns t c =
-    let r = terms-more _ _ _ _ _ _ _ _ _ (hit sum_signs _ _ (sym c.in-Some.is ∙ c.sum_kind.ensures ∙ ap (sign_kind sum_signs) (rw c.spot-spot.ensures.1 at c.peek.ensures))) (rw (c.next.ensures.1, c.spot-spot.ensures.1) at c.term.ensures.follows, rw (c.next.ensures.1, c.spot-spot.ensures.1) at c.term.ensures.parsed) c.in_ok-n.was (record { written = c.pair.ensures; token-fits = omega arith; left-fits = omega (arith, c.args.left.ready.inside, c.args.left.ready.room, c.args.left.ready.few); third-fits = omega arith }) (rw (c.after.ensures.1, c.spot-spot.ensures.1) at c.terms.ensures.follows, rw (c.after.ensures.1, c.spot-spot.ensures.1) at c.terms.ensures.extended) in record { follows = r.0; extended = r.1 }
+    let r = terms-more _ _ _ _ _ _ _ _ _ (hit sum_signs _ _ (sym c.in-Some.is ∙ c.sum_kind.ensures ∙ ap (sign_kind sum_signs) (rw c.spot-spot.ensures.1 at c.peek.ensures))) (rw (c.next.ensures.1, c.spot-spot.ensures.1) at c.term.ensures.follows, rw (c.next.ensures.1, c.spot-spot.ensures.1) at c.term.ensures.parsed) c.in_ok-n.was (record { written = c.pair.ensures; token-fits = omega arith; left-fits = omega (arith, c.args.left.now.ready.inside, c.args.left.now.ready.room, c.args.left.now.ready.few); third-fits = omega arith }) (rw (c.after.ensures.1, c.spot-spot.ensures.1) at c.terms.ensures.follows, rw (c.after.ensures.1, c.spot-spot.ensures.1) at c.terms.ensures.extended) in record { follows = r.0; extended = r.1 }

@@ -9,7 +9,7 @@ use Rattle.syntax.proofs.line.+definitions.Goals.{then-defines+in_ok-definitions
 
 pub to-spot-requires : goal.to-spot-requires
 to-spot-requires t c =
-    let w = tally-of c.in_ok-n.was c.definition.ensures.tallied in ready-after (ready-token c.args.named.spot.ready (omega (arith, c.args.named.name))) w.made.span
+    let w = tally-of c.in_ok-n.was c.definition.ensures.tallied in ready-after (ready-token c.args.named.now.spot.ready (omega (arith, c.args.named.now.name))) w.made.span
 
 pub invariant_of-definitions-clause-name : goal.invariant_of-definitions-clause-name
 invariant_of-definitions-clause-name t c =
@@ -37,4 +37,4 @@ returns-in_err-system t c =
 
 pub returns : goal.returns
 returns t c =
-    let q = ready-after (ready-token c.args.named.spot.ready (omega (arith, c.args.named.name))) (tally-of c.in_ok-n.was c.definition.ensures.tallied).made.span in elim c.if-defines.branch [ then-defines+in_ok-definitions w ↦ rw w.m-is (let r = definitions-next _ _ _ _ _ _ (c.definition.ensures.follows, c.definition.ensures.tallied) c.in_ok-n.was _ (rw c.to-spot.ensures.1 at (sym c.defines.ensures ∙ w.if-defines.true)) (rw c.to-spot.ensures.1 at w.definitions.ensures.follows, rw c.to-spot.ensures.1 at w.definitions.ensures.parsed) c.args.named.name w.in_ok-definitions.was (record { written = rw (w.m-is, w.nodes-is) at c.pair.ensures; token-fits = omega arith; left-fits = omega (arith, q.inside, q.room, q.few); third-fits = omega arith }) in record { follows = r.0; parsed = r.1 }) | else-defines+in_ok-system w ↦ rw w.m-is (let r = definitions-last _ _ _ _ _ _ (c.definition.ensures.follows, c.definition.ensures.tallied) c.in_ok-n.was _ (rw c.to-spot.ensures.1 at (sym c.defines.ensures ∙ w.if-defines.false)) (rw c.to-spot.ensures.1 at w.system.ensures.follows, rw c.to-spot.ensures.1 at w.system.ensures.parsed) c.args.named.name w.in_ok-system.was (record { written = rw (w.m-is, w.nodes-is) at c.pair.ensures; token-fits = omega arith; left-fits = omega (arith, q.inside, q.room, q.few); third-fits = omega arith }) in record { follows = r.0; parsed = r.1 }) ]
+    let q = ready-after (ready-token c.args.named.now.spot.ready (omega (arith, c.args.named.now.name))) (tally-of c.in_ok-n.was c.definition.ensures.tallied).made.span in elim c.if-defines.branch [ then-defines+in_ok-definitions w ↦ rw w.m-is (let r = definitions-next _ _ _ _ _ _ (c.definition.ensures.follows, c.definition.ensures.tallied) c.in_ok-n.was _ (rw c.to-spot.ensures.1 at (sym c.defines.ensures ∙ w.if-defines.true)) (rw c.to-spot.ensures.1 at w.definitions.ensures.follows, rw c.to-spot.ensures.1 at w.definitions.ensures.parsed) c.args.named.now.name w.in_ok-definitions.was (record { written = rw (w.m-is, w.nodes-is) at c.pair.ensures; token-fits = omega arith; left-fits = omega (arith, q.inside, q.room, q.few); third-fits = omega arith }) in record { follows = r.0; parsed = r.1 }) | else-defines+in_ok-system w ↦ rw w.m-is (let r = definitions-last _ _ _ _ _ _ (c.definition.ensures.follows, c.definition.ensures.tallied) c.in_ok-n.was _ (rw c.to-spot.ensures.1 at (sym c.defines.ensures ∙ w.if-defines.false)) (rw c.to-spot.ensures.1 at w.system.ensures.follows, rw c.to-spot.ensures.1 at w.system.ensures.parsed) c.args.named.now.name w.in_ok-system.was (record { written = rw (w.m-is, w.nodes-is) at c.pair.ensures; token-fits = omega arith; left-fits = omega (arith, q.inside, q.room, q.few); third-fits = omega arith }) in record { follows = r.0; parsed = r.1 }) ]

@@ -4,4 +4,4 @@ use lib.ListN.{length}
 use Rattle.syntax.proofs.line.+definitions.Given as goal
 
 abbrev pub decreases-definitions : goal.decreases-definitions
-decreases-definitions l = length l.named.spot.toks.now - l.named.spot.at
+decreases-definitions l = length l.named.now.spot.toks.now - l.named.now.spot.at

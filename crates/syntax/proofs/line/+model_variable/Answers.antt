@@ -7,7 +7,7 @@ use Rattle.syntax.proofs.line.+model_variable.Goals as goal
 
 pub model-returns-then-peek-ne-NAME : goal.model-returns-then-peek-ne-NAME
 model-returns-then-peek-ne-NAME t c =
-    let r = model-nameless _ _ _ _ c.args.spot.ready.inside (isnt c.peek.ensures c.if-peek-ne-NAME.true) in record { follows = r.0; parsed = r.1 }
+    let r = model-nameless _ _ _ _ c.args.spot.now.ready.inside (isnt c.peek.ensures c.if-peek-ne-NAME.true) in record { follows = r.0; parsed = r.1 }
 
 pub model-returns-then-t-eq91 : goal.model-returns-then-t-eq91
 model-returns-then-t-eq91 t c =
@@ -35,4 +35,4 @@ variable-returns-in_err-m t c =
 
 pub variable-returns : goal.variable-returns
 variable-returns t c =
-    let m = made_of c.in_ok-n.was (rw c.to.ensures.1 at c.number.ensures.parsed) in let q = ready-after (ready-third c.args.named.spot.ready (omega (arith, c.args.named.sign))) m.span in let r = variable-made _ _ _ _ _ (rw c.to.ensures.1 at c.number.ensures.follows, rw c.to.ensures.1 at c.number.ensures.parsed) c.in_ok-n.was _ (same c.peek.ensures c.if-peek-ne59.false) (rw c.to-2.ensures.1 at c.model.ensures.follows, rw c.to-2.ensures.1 at c.model.ensures.parsed) c.args.named.name c.args.named.sign c.in_ok-m.was (record { written = c.node.ensures; token-fits = omega (arith, c.args.named.spot.ready.inside, c.args.named.spot.ready.room); left-fits = omega (arith, q.inside, q.room, q.few); third-fits = omega arith }) in record { follows = r.0; parsed = r.1 }
+    let m = made_of c.in_ok-n.was (rw c.to.ensures.1 at c.number.ensures.parsed) in let q = ready-after (ready-third c.args.named.now.spot.ready (omega (arith, c.args.named.now.sign))) m.span in let r = variable-made _ _ _ _ _ (rw c.to.ensures.1 at c.number.ensures.follows, rw c.to.ensures.1 at c.number.ensures.parsed) c.in_ok-n.was _ (same c.peek.ensures c.if-peek-ne59.false) (rw c.to-2.ensures.1 at c.model.ensures.follows, rw c.to-2.ensures.1 at c.model.ensures.parsed) c.args.named.now.name c.args.named.now.sign c.in_ok-m.was (record { written = c.node.ensures; token-fits = omega (arith, c.args.named.now.spot.ready.inside, c.args.named.now.spot.ready.room); left-fits = omega (arith, q.inside, q.room, q.few); third-fits = omega arith }) in record { follows = r.0; parsed = r.1 }

@@ -5,7 +5,7 @@ use lib.ListN.{length}
 use Rattle.syntax.proofs.line.+model_variable.Given as goal
 
 abbrev pub decreases-model : goal.decreases-model
-decreases-model l = 2 * (length l.spot.toks.now - l.spot.at) + 1
+decreases-model l = 2 * (length l.spot.now.toks.now - l.spot.now.at) + 1
 
 abbrev pub decreases-variable : goal.decreases-variable
-decreases-variable l = 2 * (length l.named.spot.toks.now - l.named.spot.at)
+decreases-variable l = 2 * (length l.named.now.spot.toks.now - l.named.now.spot.at)

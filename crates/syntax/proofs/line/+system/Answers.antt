@@ -23,4 +23,4 @@ returns-in_err-m t c =
 
 pub returns : goal.returns
 returns t c =
-    let m = made_of c.in_ok-n.was c.start.ensures.parsed in let q = ready-after c.args.spot.ready m.span in let r = system-next _ _ _ _ _ (c.start.ensures.follows, c.start.ensures.parsed) c.in_ok-n.was _ (same c.peek-t.ensures c.if-t.false) (rw c.to.ensures.1 at c.system.ensures.follows, rw c.to.ensures.1 at c.system.ensures.parsed) c.in_ok-m.was (record { written = c.pair.ensures; token-fits = omega arith; left-fits = omega (arith, q.inside, q.room, q.few); third-fits = omega arith }) in record { follows = r.0; parsed = r.1 }
+    let m = made_of c.in_ok-n.was c.start.ensures.parsed in let q = ready-after c.args.spot.now.ready m.span in let r = system-next _ _ _ _ _ (c.start.ensures.follows, c.start.ensures.parsed) c.in_ok-n.was _ (same c.peek-t.ensures c.if-t.false) (rw c.to.ensures.1 at c.system.ensures.follows, rw c.to.ensures.1 at c.system.ensures.parsed) c.in_ok-m.was (record { written = c.pair.ensures; token-fits = omega arith; left-fits = omega (arith, q.inside, q.room, q.few); third-fits = omega arith }) in record { follows = r.0; parsed = r.1 }

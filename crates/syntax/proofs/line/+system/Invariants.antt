@@ -4,4 +4,4 @@ use lib.ListN.{length}
 use Rattle.syntax.proofs.line.+system.Given as goal
 
 abbrev pub decreases-system : goal.decreases-system
-decreases-system l = length l.spot.toks.now - l.spot.at
+decreases-system l = length l.spot.now.toks.now - l.spot.now.at

@@ -23,4 +23,4 @@ returns-in_err-m c =
 
 pub returns : goal.returns
 returns c =
-    let g = given-of c.in_ok-n.was c.params.ensures.parameters in let r = definition-made _ _ _ _ _ (c.params.ensures.follows, c.params.ensures.parameters) c.in_ok-n.was _ (same c.peek.ensures c.if-peek-ne61.false) (rw c.to.ensures.1 at c.body.ensures.follows, rw c.to.ensures.1 at c.body.ensures.tallied) c.in_ok-m.was c.args.named.sign (same c.peek-2.ensures c.if-peek-ne59.false) (record { written = c.node.ensures; token-fits = omega (arith, c.args.named.spot.ready.inside, c.args.named.spot.ready.room); left-fits = omega arith; third-fits = omega (arith, g.fewer, g.within, c.args.named.spot.ready.room) }) in record { follows = r.0; tallied = r.1 }
+    let g = given-of c.in_ok-n.was c.params.ensures.parameters in let r = definition-made _ _ _ _ _ (c.params.ensures.follows, c.params.ensures.parameters) c.in_ok-n.was _ (same c.peek.ensures c.if-peek-ne61.false) (rw c.to.ensures.1 at c.body.ensures.follows, rw c.to.ensures.1 at c.body.ensures.tallied) c.in_ok-m.was c.args.named.now.sign (same c.peek-2.ensures c.if-peek-ne59.false) (record { written = c.node.ensures; token-fits = omega (arith, c.args.named.now.spot.ready.inside, c.args.named.now.spot.ready.room); left-fits = omega arith; third-fits = omega (arith, g.fewer, g.within, c.args.named.now.spot.ready.room) }) in record { follows = r.0; tallied = r.1 }

@@ -9,7 +9,7 @@ returns-then-t-eq-NAME c =
 
 pub returns-then-t-ne-WHOLE : goal.returns-then-t-ne-WHOLE
 returns-then-t-ne-WHOLE c =
-    let r = start-neither _ _ _ _ c.args.spot.ready.inside (isnt c.peek-t.ensures c.if-t-eq-NAME.false) (isnt c.peek-t.ensures c.if-t-ne-WHOLE.true) in record { follows = r.0; parsed = r.1 }
+    let r = start-neither _ _ _ _ c.args.spot.now.ready.inside (isnt c.peek-t.ensures c.if-t-eq-NAME.false) (isnt c.peek-t.ensures c.if-t-ne-WHOLE.true) in record { follows = r.0; parsed = r.1 }
 
 pub returns-then-peek-ne42 : goal.returns-then-peek-ne42
 returns-then-peek-ne42 c =

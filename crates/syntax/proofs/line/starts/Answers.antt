@@ -8,11 +8,11 @@ use Rattle.syntax.proofs.line.starts.Goals as goal
 
 pub returns-then-peek-ne91 : goal.returns-then-peek-ne91
 returns-then-peek-ne91 c =
-    let r = starts-closed _ _ c.args.name _ _ _ c.args.spot.ready.inside (isnt c.peek.ensures c.if-peek-ne91.true) in record { follows = r.0; parsed = r.1 }
+    let r = starts-closed _ _ c.args.name _ _ _ c.args.spot.now.ready.inside (isnt c.peek.ensures c.if-peek-ne91.true) in record { follows = r.0; parsed = r.1 }
 
 pub returns-then-peek-eq93 : goal.returns-then-peek-eq93
 returns-then-peek-eq93 c =
-    let r = starts-empty _ _ _ _ _ _ _ (same c.peek.ensures c.if-peek-ne91.false) (same c.peek-2.ensures c.if-peek-eq93.true) (record { written = c.leaf.ensures; token-fits = omega (arith, c.args.spot.ready.room, c.args.spot.ready.inside, c.requires.name_before); left-fits = omega arith; third-fits = omega arith }) in record { follows = r.0; parsed = r.1 }
+    let r = starts-empty _ _ _ _ _ _ _ (same c.peek.ensures c.if-peek-ne91.false) (same c.peek-2.ensures c.if-peek-eq93.true) (record { written = c.leaf.ensures; token-fits = omega (arith, c.args.spot.now.ready.room, c.args.spot.now.ready.inside, c.requires.name_before); left-fits = omega arith; third-fits = omega arith }) in record { follows = r.0; parsed = r.1 }
 
 pub returns-in_err-m : goal.returns-in_err-m
 returns-in_err-m c =
@@ -20,4 +20,4 @@ returns-in_err-m c =
 
 pub returns : goal.returns
 returns c =
-    let w = tally-of c.in_ok-m.was (rw c.to.ensures.1 at c.wholes.ensures.tallied) in let r = starts-made _ _ _ _ _ _ _ (same c.peek.ensures c.if-peek-ne91.false) (isnt c.peek-2.ensures c.if-peek-eq93.false) (rw c.to.ensures.1 at c.wholes.ensures.follows, rw c.to.ensures.1 at c.wholes.ensures.tallied) c.in_ok-m.was (record { written = c.node.ensures; token-fits = omega (arith, c.args.spot.ready.room, c.args.spot.ready.inside, c.requires.name_before); left-fits = omega arith; third-fits = omega (arith, c.args.spot.ready.room, w.made.span.within, w.rarer) }) in record { follows = r.0; parsed = r.1 }
+    let w = tally-of c.in_ok-m.was (rw c.to.ensures.1 at c.wholes.ensures.tallied) in let r = starts-made _ _ _ _ _ _ _ (same c.peek.ensures c.if-peek-ne91.false) (isnt c.peek-2.ensures c.if-peek-eq93.false) (rw c.to.ensures.1 at c.wholes.ensures.follows, rw c.to.ensures.1 at c.wholes.ensures.tallied) c.in_ok-m.was (record { written = c.node.ensures; token-fits = omega (arith, c.args.spot.now.ready.room, c.args.spot.now.ready.inside, c.requires.name_before); left-fits = omega arith; third-fits = omega (arith, c.args.spot.now.ready.room, w.made.span.within, w.rarer) }) in record { follows = r.0; parsed = r.1 }

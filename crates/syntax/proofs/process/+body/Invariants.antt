@@ -4,4 +4,4 @@ use lib.ListN.{length}
 use Rattle.syntax.proofs.process.+body.Given as goal
 
 abbrev pub decreases-body : goal.decreases-body
-decreases-body l = length l.site.spot.toks.now - l.site.spot.at
+decreases-body l = length l.site.now.spot.toks.now - l.site.now.spot.at

@@ -20,4 +20,4 @@ returns-in_err-m c =
 
 pub returns : goal.returns
 returns c =
-    let m = made_of c.in_ok-n.was c.expr.ensures.parsed in let r = part-range _ _ _ _ _ c.in_ok-n.was (c.expr.ensures.follows, c.expr.ensures.parsed) _ (same c.peek.ensures c.if-peek.false) (rw c.to.ensures.1 at c.expr-2.ensures.follows, rw c.to.ensures.1 at c.expr-2.ensures.parsed) c.in_ok-m.was (record { written = c.pair.ensures; token-fits = omega arith; left-fits = omega (arith, m.span.onward, m.span.within, m.span.more, m.span.fewer, c.args.spot.ready.inside, c.args.spot.ready.room, c.args.spot.ready.few); third-fits = omega arith }) in record { follows = r.0; parsed = r.1 }
+    let m = made_of c.in_ok-n.was c.expr.ensures.parsed in let r = part-range _ _ _ _ _ c.in_ok-n.was (c.expr.ensures.follows, c.expr.ensures.parsed) _ (same c.peek.ensures c.if-peek.false) (rw c.to.ensures.1 at c.expr-2.ensures.follows, rw c.to.ensures.1 at c.expr-2.ensures.parsed) c.in_ok-m.was (record { written = c.pair.ensures; token-fits = omega arith; left-fits = omega (arith, m.span.onward, m.span.within, m.span.more, m.span.fewer, c.args.spot.now.ready.inside, c.args.spot.now.ready.room, c.args.spot.now.ready.few); third-fits = omega arith }) in record { follows = r.0; parsed = r.1 }

@@ -26,9 +26,8 @@ pub fn closed(left: &Left, nodes: &mut [u64]) -> Roots
     ensures tallied { Tallied flat_closed (λ v. 0) (λ t v. Table.Rate t (rate_at v left.now.at)) left.now.toks.now nodes.old nodes.new left.now.at (left.now.root + 1) left.now.root result }
     ensures spare { Spare left.now.at (left.now.root + 1) left.now.root result }
 {
-    let spot = left.spot();
-    let (n, root) = rate::rate(&spot, nodes)?;
-    if token::peek(spot.toks, n) != b'}' {
+    let (n, root) = rate::rate(left.toks, left.at, nodes, left.root + 1)?;
+    if token::peek(left.toks, n) != b'}' {
         return Err(n);
     }
     Ok((n + 1, root, left.root))
@@ -54,10 +53,9 @@ pub fn second(left: &Left, nodes: &mut [u64], first: usize) -> Roots
     ensures follows { Follows left.now.toks.now left.now.at (ThirdItem ∷ the_deed ++ Want kind.close_curly ∷ []) (place_counted result) }
     ensures seconds { Seconds left.now.toks.now nodes.old nodes.new left.now.at first left.now.root result }
 {
-    let spot = left.spot();
-    let (n, root) = channel::thirds(left, nodes, first)?;
-    let (m, deed) = action::deed(&spot.after(n, root), nodes)?;
-    rated(&spot.after(m, deed), nodes)
+    let (n, root) = channel::thirds(left.toks, left.at, nodes, left.root, first)?;
+    let (m, deed) = action::deed(left.toks, n, nodes, root)?;
+    rated(&left.spot().after(m, deed), nodes)
 }
 
 // What follows an item's first atom, which is on the left.
@@ -65,9 +63,8 @@ pub fn rest(left: &Left, nodes: &mut [u64]) -> Read
     ensures follows { Follows left.now.toks.now left.now.at (Factors' ∷ Terms' ∷ []) (place result) }
     ensures extended { Extended flat_rest (λ x p. rest_at x p left.now.at) Table.Expr Table.Expr left.now.toks.now nodes.old nodes.new left.now.at left.now.root result }
 {
-    let spot = left.spot();
-    let (n, r) = expression::factors(left, nodes)?;
-    expression::terms(&spot.after(n, r), nodes)
+    let (n, r) = expression::factors(left.toks, left.at, nodes, left.root)?;
+    expression::terms(left.toks, n, nodes, r)
 }
 
 // After a name and a comma, what may be a rate's number or name, or an item's, perhaps times an atom: the last of its tokens is `digits`, its node is of the one kind or the other.
@@ -86,7 +83,7 @@ pub fn undecided(
     let left = spot.used + 1;
     let at = digits + 1;
     let (n, root) = if token::peek(spot.toks, at) == b'*' {
-        let (m, r) = expression::atom(&spot.to(at + 1, left + 1), nodes)?;
+        let (m, r) = expression::atom(spot.toks, at + 1, nodes, left + 1)?;
         (m, r + 1)
     } else {
         (at, left)
@@ -126,7 +123,7 @@ pub fn lone(named: &Named<{ b',' }>, nodes: &mut [u64]) -> Roots
         }
         _ => {
             tree::leaf(nodes, spot.used, NodeKind::NAMED, spot.at);
-            let (m, mid) = expression::expr(&spot.to(n, spot.used + 1), nodes)?;
+            let (m, mid) = expression::expr(spot.toks, n, nodes, spot.used + 1)?;
             second(&spot.after(m, mid), nodes, spot.used)
         }
     }
@@ -164,16 +161,19 @@ pub fn braced(spot: &Spot, nodes: &mut [u64]) -> Roots
 {
     match spot.peek() {
         b'~' => {
-            let (n, root) = action::check(spot, nodes)?;
+            let (n, root) = action::check(spot.toks, spot.at, nodes, spot.used)?;
             rated(&spot.after(n, root), nodes)
         }
         b'@' => {
-            let (n, root) = action::handshake(spot, nodes)?;
+            let (n, root) = action::handshake(spot.toks, spot.at, nodes, spot.used)?;
             rated(&spot.after(n, root), nodes)
         }
-        Kind::NAME if token::peek(spot.toks, spot.at + 1) == b',' => lone(&Named { spot: *spot }, nodes),
+        Kind::NAME if token::peek(spot.toks, spot.at + 1) == b',' => lone(
+            &Named { spot: *spot },
+            nodes,
+        ),
         _ => {
-            let (n, root) = action::beacon(spot, nodes)?;
+            let (n, root) = action::beacon(spot.toks, spot.at, nodes, spot.used)?;
             rated(&spot.after(n, root), nodes)
         }
     }

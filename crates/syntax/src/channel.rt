@@ -5,50 +5,49 @@ ghost use Rattle.grammar.specs.Machine.{SecondItem, ThirdItem, a_channel};
 ghost use Rattle.grammar.specs.Follows.{Follows};
 ghost use Rattle.grammar.specs.Syntax.{channel_at};
 ghost use Rattle.tree.specs.Table;
-ghost use Rattle.tree.specs.Reading.{place, Parsed, Extended};
+ghost use Rattle.tree.specs.Reading.{place, Ready, Parsed, Extended};
 ghost use Rattle.syntax.specs.Channels.{flat_more, more_at, Items};
 
 use crate::expression;
-use crate::left::Left;
-use crate::spot::Spot;
 use tree::{NodeKind, Read};
 
 // A channel.
-pub fn channel(spot: &Spot, nodes: &mut [u64]) -> Read
-    ensures follows { Follows spot.now.toks.now spot.now.at (a_channel) (place result) }
-    ensures parsed { Parsed flat_channel (λ t c. Table.Channel t (channel_at c spot.now.at)) spot.now.toks.now nodes.old nodes.new spot.now.at spot.now.used result }
+pub fn channel(toks: &[u8], at: usize, nodes: &mut [u64], used: usize) -> Read
+    requires { Ready toks.now at used }
+    ensures follows { Follows toks.now at (a_channel) (place result) }
+    ensures parsed { Parsed flat_channel (λ t c. Table.Channel t (channel_at c at)) toks.now nodes.old nodes.new at used result }
 {
-    let (n, left) = expression::expr(spot, nodes)?;
-    seconds(&spot.after(n, left), nodes)
+    let (n, left) = expression::expr(toks, at, nodes, used)?;
+    seconds(toks, n, nodes, left)
 }
 
 // What follows a channel's first item, which is on the left: perhaps one or two items more.
-pub fn seconds(left: &Left, nodes: &mut [u64]) -> Read
-    ensures follows { Follows left.now.toks.now left.now.at (SecondItem ∷ []) (place result) }
-    ensures extended { Extended flat_more (λ e m. more_at e m left.now.at) Table.Expr Table.Channel left.now.toks.now nodes.old nodes.new left.now.at left.now.root result }
+pub fn seconds(toks: &[u8], at: usize, nodes: &mut [u64], left: usize) -> Read
+    requires { Ready toks.now at (left + 1) }
+    ensures follows { Follows toks.now at (SecondItem ∷ []) (place result) }
+    ensures extended { Extended flat_more (λ e m. more_at e m at) Table.Expr Table.Channel toks.now nodes.old nodes.new at left result }
 {
-    let spot = left.spot();
-    if spot.peek() != b',' {
-        return Ok((left.at, left.root));
+    if token::peek(toks, at) != b',' {
+        return Ok((at, left));
     }
-    let (n, mid) = expression::expr(&spot.next(), nodes)?;
-    thirds(&spot.after(n, mid), nodes, left.root)
+    let (n, mid) = expression::expr(toks, at + 1, nodes, left + 1)?;
+    thirds(toks, n, nodes, mid, left)
 }
 
 // What follows a channel's first two items, which are at `first` and on the left: perhaps one more. Unlike `seconds` it always makes a node.
-pub fn thirds(left: &Left, nodes: &mut [u64], first: usize) -> Read
-    requires first_le_root { first ≤ left.now.root }
-    ensures follows { Follows left.now.toks.now left.now.at (ThirdItem ∷ []) (place result) }
-    ensures items { Items left.now.toks.now nodes.old nodes.new left.now.at first left.now.root result }
+pub fn thirds(toks: &[u8], at: usize, nodes: &mut [u64], left: usize, first: usize) -> Read
+    requires ready { Ready toks.now at (left + 1) }
+    requires first_le_root { first ≤ left }
+    ensures follows { Follows toks.now at (ThirdItem ∷ []) (place result) }
+    ensures items { Items toks.now nodes.old nodes.new at first left result }
 {
-    let spot = left.spot();
-    if spot.peek() != b',' {
-        let root = left.root + 1;
+    if token::peek(toks, at) != b',' {
+        let root = left + 1;
         tree::pair(nodes, root, NodeKind::TWO_ITEMS, first);
-        return Ok((left.at, root));
+        return Ok((at, root));
     }
-    let (n, r) = expression::expr(&spot.next(), nodes)?;
+    let (n, r) = expression::expr(toks, at + 1, nodes, left + 1)?;
     let root = r + 1;
-    tree::node(nodes, root, NodeKind::THREE_ITEMS, 0, first, left.root);
+    tree::node(nodes, root, NodeKind::THREE_ITEMS, 0, first, left);
     Ok((n, root))
 }

@@ -1,10 +1,9 @@
 // Reads the square brackets of an action, around values or sets.
 ghost use Rattle.grammar.specs.Follows.{Follows};
-ghost use Rattle.tree.specs.Reading.{place, Parsed};
+ghost use Rattle.tree.specs.Reading.{place, Ready, Parsed};
 ghost use Rattle.syntax.specs.Entries as entries;
 ghost use Rattle.syntax.specs.Entries.{an_entry, the_entries, flat_entry, flat_entries, Holds, HoldsAll};
 
-use crate::spot::Spot;
 use crate::{expression, set};
 use tree::{NodeKind, Read};
 
@@ -13,9 +12,10 @@ pub trait Entry {
     ghost which: { entries.Entry };
 
     // One of them.
-    fn read(spot: &Spot, nodes: &mut [u64]) -> Read
-        ensures follows { Follows spot.now.toks.now spot.now.at (an_entry which) (place result) }
-        ensures parsed { Parsed (flat_entry which) (λ t x. Holds which t x spot.now.at) spot.now.toks.now nodes.old nodes.new spot.now.at spot.now.used result };
+    fn read(toks: &[u8], at: usize, nodes: &mut [u64], used: usize) -> Read
+        requires { Ready toks.now at used }
+        ensures follows { Follows toks.now at (an_entry which) (place result) }
+        ensures parsed { Parsed (flat_entry which) (λ t x. Holds which t x at) toks.now nodes.old nodes.new at used result };
 }
 
 pub struct Value;
@@ -23,8 +23,8 @@ pub struct Value;
 impl Entry for Value {
     ghost which = { entries.value };
 
-    fn read(spot: &Spot, nodes: &mut [u64]) -> Read {
-        expression::expr(spot, nodes)
+    fn read(toks: &[u8], at: usize, nodes: &mut [u64], used: usize) -> Read {
+        expression::expr(toks, at, nodes, used)
     }
 }
 
@@ -33,29 +33,30 @@ pub struct Set;
 impl Entry for Set {
     ghost which = { entries.set };
 
-    fn read(spot: &Spot, nodes: &mut [u64]) -> Read {
-        set::set(spot, nodes)
+    fn read(toks: &[u8], at: usize, nodes: &mut [u64], used: usize) -> Read {
+        set::set(toks, at, nodes, used)
     }
 }
 
 // One or two entries in square brackets.
-pub fn entries<E: Entry>(spot: &Spot, nodes: &mut [u64]) -> Read
-    ensures follows { Follows spot.now.toks.now spot.now.at (the_entries E.which) (place result) }
-    ensures parsed { Parsed (flat_entries E.which) (λ t x. HoldsAll E.which t x spot.now.at) spot.now.toks.now nodes.old nodes.new spot.now.at spot.now.used result }
+pub fn entries<E: Entry>(toks: &[u8], at: usize, nodes: &mut [u64], used: usize) -> Read
+    requires { Ready toks.now at used }
+    ensures follows { Follows toks.now at (the_entries E.which) (place result) }
+    ensures parsed { Parsed (flat_entries E.which) (λ t x. HoldsAll E.which t x at) toks.now nodes.old nodes.new at used result }
 {
-    if spot.peek() != b'[' {
-        return Err(spot.at);
+    if token::peek(toks, at) != b'[' {
+        return Err(at);
     }
-    let (n, left) = E::read(&spot.next(), nodes)?;
-    let t = token::peek(spot.toks, n);
+    let (n, left) = E::read(toks, at + 1, nodes, used)?;
+    let t = token::peek(toks, n);
     if t == b']' {
         return Ok((n + 1, left));
     }
     if t != b',' {
         return Err(n);
     }
-    let (m, r) = E::read(&spot.to(n + 1, left + 1), nodes)?;
-    if token::peek(spot.toks, m) != b']' {
+    let (m, r) = E::read(toks, n + 1, nodes, left + 1)?;
+    if token::peek(toks, m) != b']' {
         return Err(m);
     }
     let root = r + 1;

@@ -6,7 +6,7 @@ ghost use Rattle.grammar.specs.Machine.{Want, Whole', Number', Params', MoreWhol
 ghost use Rattle.grammar.specs.Follows.{Follows};
 ghost use Rattle.grammar.specs.Syntax.{wholes_at, starts_at, start_at, system_at, definitions_at, model_at};
 ghost use Rattle.tree.specs.Table;
-ghost use Rattle.tree.specs.Reading.{place, place_counted, token_room, Parsed, Tallied};
+ghost use Rattle.tree.specs.Reading.{place, place_counted, token_room, Ready, Parsed, Tallied};
 ghost use Rattle.syntax.specs.Judged.{TextJudged};
 ghost use Rattle.syntax.specs.Line.{defining, in_definition, Parameters, written_definition, count_definition, Definition, written_wholes, Started};
 
@@ -94,19 +94,20 @@ pub fn definitions(named: &Named<{ b'[' }>, nodes: &mut [u64], sums: usize) -> R
 }
 
 // Whole numbers parted by commas and the `]` after them, with their count. Beside `process::call` stands why this and `args` there are no one function.
-pub fn wholes(spot: &Spot, nodes: &mut [u64]) -> Counted
-    ensures follows { Follows spot.now.toks.now spot.now.at (Whole' ∷ MoreWholes ∷ Want kind.close_square ∷ []) (place_counted result) }
-    ensures tallied { Tallied written_wholes (λ w. Table.count_wholes (wholes_at w spot.now.at)) (λ t w. Table.Wholes t (wholes_at w spot.now.at)) spot.now.toks.now nodes.old nodes.new spot.now.at spot.now.used 0 result }
+pub fn wholes(toks: &[u8], at: usize, nodes: &mut [u64], used: usize) -> Counted
+    requires { Ready toks.now at used }
+    ensures follows { Follows toks.now at (Whole' ∷ MoreWholes ∷ Want kind.close_square ∷ []) (place_counted result) }
+    ensures tallied { Tallied written_wholes (λ w. Table.count_wholes (wholes_at w at)) (λ t w. Table.Wholes t (wholes_at w at)) toks.now nodes.old nodes.new at used 0 result }
 {
-    let (n, left) = expression::literal(spot, nodes)?;
-    let t = token::peek(spot.toks, n);
+    let (n, left) = expression::literal(toks, at, nodes, used)?;
+    let t = token::peek(toks, n);
     if t == b']' {
         return Ok((n + 1, left, 1));
     }
     if t != b',' {
         return Err(n);
     }
-    let (m, r, count) = wholes(&spot.to(n + 1, left + 1), nodes)?;
+    let (m, r, count) = wholes(toks, n + 1, nodes, left + 1)?;
     let root = r + 1;
     tree::pair(nodes, root, NodeKind::WHOLE, left);
     Ok((m, root, count + 1))
@@ -127,7 +128,7 @@ pub fn starts(spot: &Spot, nodes: &mut [u64], name: usize, base: u8) -> Read
         tree::leaf(nodes, spot.used, base, name);
         return Ok((n + 1, spot.used));
     }
-    let (m, r, count) = wholes(&spot.to(n, spot.used), nodes)?;
+    let (m, r, count) = wholes(spot.toks, n, nodes, spot.used)?;
     let root = r + 1;
     tree::node(nodes, root, base + 1, name, 0, count);
     Ok((m, root))
@@ -153,7 +154,12 @@ pub fn start(spot: &Spot, nodes: &mut [u64]) -> Read
     if token::peek(spot.toks, name) != Kind::NAME {
         return Err(name);
     }
-    starts(&spot.to(name + 1, spot.used), nodes, name, NodeKind::COUNTED)
+    starts(
+        &spot.to(name + 1, spot.used),
+        nodes,
+        name,
+        NodeKind::COUNTED,
+    )
 }
 
 // The items of the system line, with its `;`. Beside `process::items` stands why this and the reader there are no one function.
@@ -202,7 +208,7 @@ pub fn variable(named: &Named<{ b'=' }>, nodes: &mut [u64]) -> Read
     ensures parsed { Parsed flat_model (λ t m. Table.Model t (model_at m named.now.spot.at)) named.now.spot.toks.now nodes.old nodes.new named.now.spot.at named.now.spot.used result }
 {
     let spot = named.spot;
-    let (n, left) = rate::number(&spot.to(spot.at + 2, spot.used), nodes)?;
+    let (n, left) = rate::number(spot.toks, spot.at + 2, nodes, spot.used)?;
     if token::peek(spot.toks, n) != b';' {
         return Err(n);
     }

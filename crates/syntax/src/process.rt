@@ -6,7 +6,7 @@ ghost use Rattle.grammar.specs.Machine.{Want, MoreArgs, Cont', Item', Items', an
 ghost use Rattle.grammar.specs.Follows.{Follows};
 ghost use Rattle.grammar.specs.Syntax.{exprs_at, branch_at, cont_at, item_at, sum_at, body_at, sums_prefix, sums_cont, sums_item, sums_body};
 ghost use Rattle.tree.specs.Table;
-ghost use Rattle.tree.specs.Reading.{place_counted, Tallied};
+ghost use Rattle.tree.specs.Reading.{place_counted, Ready, Tallied};
 ghost use Rattle.syntax.specs.Judged.{written_sum, count_sum};
 ghost use Rattle.syntax.specs.Processes.{flat_offer, sums_offer, offer_at, closed_exprs, flat_call, call_at, flat_item_list, sums_item_list, item_list_at, flat_group, group_at, sums_branches, branches_from, Spare};
 
@@ -38,7 +38,7 @@ pub fn gated(site: &Site<1>, nodes: &mut [u64]) -> Counted
     ensures spare { Spare site.now.spot.at site.now.spot.used site.now.sums result }
 {
     let spot = site.spot;
-    let (n, left) = condition::condition(&spot.next(), nodes)?;
+    let (n, left) = condition::condition(spot.toks, spot.at + 1, nodes, spot.used)?;
     if token::peek(spot.toks, n) != b']' {
         return Err(n);
     }
@@ -123,26 +123,27 @@ pub fn call(spot: &Spot, nodes: &mut [u64], sums: usize) -> Counted
         tree::leaf(nodes, spot.used, NodeKind::CALL, spot.at);
         return Ok((n + 1, spot.used, sums));
     }
-    let (m, r, count) = args(&spot.to(n, spot.used), nodes)?;
+    let (m, r, count) = args(spot.toks, n, nodes, spot.used)?;
     let root = r + 1;
     tree::node(nodes, root, NodeKind::CALL_WITH, spot.at, 0, count);
     Ok((m, root, sums))
 }
 
 // Values parted by commas and the `]` after them, with their count.
-pub fn args(spot: &Spot, nodes: &mut [u64]) -> Counted
-    ensures follows { Follows spot.now.toks.now spot.now.at (an_expr ++ MoreArgs ∷ Want kind.close_square ∷ []) (place_counted result) }
-    ensures tallied { Tallied closed_exprs (λ e. Table.count_exprs (exprs_at e spot.now.at)) (λ t e. Table.Exprs t (exprs_at e spot.now.at)) spot.now.toks.now nodes.old nodes.new spot.now.at spot.now.used 0 result }
+pub fn args(toks: &[u8], at: usize, nodes: &mut [u64], used: usize) -> Counted
+    requires { Ready toks.now at used }
+    ensures follows { Follows toks.now at (an_expr ++ MoreArgs ∷ Want kind.close_square ∷ []) (place_counted result) }
+    ensures tallied { Tallied closed_exprs (λ e. Table.count_exprs (exprs_at e at)) (λ t e. Table.Exprs t (exprs_at e at)) toks.now nodes.old nodes.new at used 0 result }
 {
-    let (n, left) = expression::expr(spot, nodes)?;
-    let t = token::peek(spot.toks, n);
+    let (n, left) = expression::expr(toks, at, nodes, used)?;
+    let t = token::peek(toks, n);
     if t == b']' {
         return Ok((n + 1, left, 1));
     }
     if t != b',' {
         return Err(n);
     }
-    let (m, r, count) = args(&spot.to(n + 1, left + 1), nodes)?;
+    let (m, r, count) = args(toks, n + 1, nodes, left + 1)?;
     let root = r + 1;
     tree::pair(nodes, root, NodeKind::ARGUMENT, left);
     Ok((m, root, count + 1))

@@ -35,8 +35,8 @@ returns-in-3 c =
 
 pub returns-in_err-m-in_default : goal.returns-in_err-m-in_default
 returns-in_err-m-in_default c =
-    rw (raised c.from_residual.ensures.1) (let r = lone-fault c.args.named.now.spot.toks.now c.args.nodes.now c.args.named.now.spot.at c.args.named.now.spot.used (c.args.named.now.name, c.args.named.now.sign) (isnt c.peek.ensures (omega arith)) (isnt c.peek.ensures (omega arith)) (isnt c.peek.ensures (omega arith)) (isnt c.peek.ensures (omega arith)) (record { written = c.leaf-in_default.ensures; token-fits = omega (arith, c.args.named.now.spot.ready.room, c.args.named.now.spot.ready.few, c.args.named.now.spot.ready.inside); left-fits = omega arith; third-fits = omega arith }) _ (rw c.to.ensures.1 at c.expr.ensures.follows, rw c.to.ensures.1 at c.expr.ensures.parsed) c.in_err-m-in_default.was in record { follows = r.0; inside = r.1 })
+    rw (raised c.from_residual.ensures.1) (let r = lone-fault c.args.named.now.spot.toks.now c.args.nodes.now c.args.named.now.spot.at c.args.named.now.spot.used (c.args.named.now.name, c.args.named.now.sign) (isnt c.peek.ensures (omega arith)) (isnt c.peek.ensures (omega arith)) (isnt c.peek.ensures (omega arith)) (isnt c.peek.ensures (omega arith)) (record { written = c.leaf-in_default.ensures; token-fits = omega (arith, c.args.named.now.spot.ready.room, c.args.named.now.spot.ready.few, c.args.named.now.spot.ready.inside); left-fits = omega arith; third-fits = omega arith }) _ (c.expr.ensures.follows, c.expr.ensures.parsed) c.in_err-m-in_default.was in record { follows = r.0; inside = r.1 })
 
 pub returns-in_ok-m-in_default : goal.returns-in_ok-m-in_default
 returns-in_ok-m-in_default c =
-    let r = lone-done c.args.named.now.spot.toks.now c.args.nodes.now c.args.named.now.spot.at c.args.named.now.spot.used (c.args.named.now.name, c.args.named.now.sign) (isnt c.peek.ensures (omega arith)) (isnt c.peek.ensures (omega arith)) (isnt c.peek.ensures (omega arith)) (isnt c.peek.ensures (omega arith)) (record { written = c.leaf-in_default.ensures; token-fits = omega (arith, c.args.named.now.spot.ready.room, c.args.named.now.spot.ready.few, c.args.named.now.spot.ready.inside); left-fits = omega arith; third-fits = omega arith }) _ (rw c.to.ensures.1 at c.expr.ensures.follows, rw c.to.ensures.1 at c.expr.ensures.parsed) c.in_ok-m-in_default.was _ _ (rw c.after-in_default.ensures.1 at c.second.ensures.follows, rw c.after-in_default.ensures.1 at c.second.ensures.seconds) in record { follows = r.0; inside = r.1 }
+    let r = lone-done c.args.named.now.spot.toks.now c.args.nodes.now c.args.named.now.spot.at c.args.named.now.spot.used (c.args.named.now.name, c.args.named.now.sign) (isnt c.peek.ensures (omega arith)) (isnt c.peek.ensures (omega arith)) (isnt c.peek.ensures (omega arith)) (isnt c.peek.ensures (omega arith)) (record { written = c.leaf-in_default.ensures; token-fits = omega (arith, c.args.named.now.spot.ready.room, c.args.named.now.spot.ready.few, c.args.named.now.spot.ready.inside); left-fits = omega arith; third-fits = omega arith }) _ (c.expr.ensures.follows, c.expr.ensures.parsed) c.in_ok-m-in_default.was _ _ (rw c.after-in_default.ensures.1 at c.second.ensures.follows, rw c.after-in_default.ensures.1 at c.second.ensures.seconds) in record { follows = r.0; inside = r.1 }

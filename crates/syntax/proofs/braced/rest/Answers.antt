@@ -9,4 +9,4 @@ returns-in_err-n c =
 
 pub returns : goal.returns
 returns c =
-    let r = rest-made c.args.left.now.toks.now c.args.nodes.now _ c.args.left.now.at c.args.left.now.root (c.factors.ensures.follows, c.factors.ensures.extended) c.in_ok-n.was _ _ (rw (c.after.ensures.1, c.spot-spot.ensures.1) at c.terms.ensures.follows, rw (c.after.ensures.1, c.spot-spot.ensures.1) at c.terms.ensures.extended) in record { follows = r.0; extended = r.1 }
+    let r = rest-made c.args.left.now.toks.now c.args.nodes.now _ c.args.left.now.at c.args.left.now.root (c.factors.ensures.follows, c.factors.ensures.extended) c.in_ok-n.was _ _ (c.terms.ensures.follows, c.terms.ensures.extended) in record { follows = r.0; extended = r.1 }

@@ -9,8 +9,8 @@ returns-in_err-n c =
 
 pub returns-in_err-m : goal.returns-in_err-m
 returns-in_err-m c =
-    rw (raised c.from_residual-in_err-m.ensures.1) (let r = second-done c.args.left.now.toks.now c.args.nodes.now _ c.args.left.now.at c.args.first c.args.left.now.root (c.thirds.ensures.follows, c.thirds.ensures.items) c.in_ok-n.was _ _ _ _ (rw (c.after.ensures.1, c.spot-spot.ensures.1) at c.deed.ensures.follows, rw (c.after.ensures.1, c.spot-spot.ensures.1) at c.deed.ensures.extended) (ended-fault _ _ c.in_err-m.was) in record { follows = r.0; seconds = r.1 })
+    rw (raised c.from_residual-in_err-m.ensures.1) (let r = second-done c.args.left.now.toks.now c.args.nodes.now _ c.args.left.now.at c.args.first c.args.left.now.root (c.thirds.ensures.follows, c.thirds.ensures.items) c.in_ok-n.was _ _ _ _ (c.deed.ensures.follows, c.deed.ensures.extended) (ended-fault _ _ c.in_err-m.was) in record { follows = r.0; seconds = r.1 })
 
 pub returns : goal.returns
 returns c =
-    let r = second-done c.args.left.now.toks.now c.args.nodes.now _ c.args.left.now.at c.args.first c.args.left.now.root (c.thirds.ensures.follows, c.thirds.ensures.items) c.in_ok-n.was _ _ _ _ (rw (c.after.ensures.1, c.spot-spot.ensures.1) at c.deed.ensures.follows, rw (c.after.ensures.1, c.spot-spot.ensures.1) at c.deed.ensures.extended) (ended-made _ _ _ _ c.in_ok-m.was (rw (c.after-2.ensures.1, c.spot-spot.ensures.1) at c.rated.ensures.follows, (rw (c.after-2.ensures.1, c.spot-spot.ensures.1) at c.rated.ensures.rating, rw c.after-2.ensures.1 at c.rated.ensures.spare))) in record { follows = r.0; seconds = r.1 }
+    let r = second-done c.args.left.now.toks.now c.args.nodes.now _ c.args.left.now.at c.args.first c.args.left.now.root (c.thirds.ensures.follows, c.thirds.ensures.items) c.in_ok-n.was _ _ _ _ (c.deed.ensures.follows, c.deed.ensures.extended) (ended-made _ _ _ _ c.in_ok-m.was (rw (c.after.ensures.1, c.spot.ensures.1) at c.rated.ensures.follows, (rw (c.after.ensures.1, c.spot.ensures.1) at c.rated.ensures.rating, rw c.after.ensures.1 at c.rated.ensures.spare))) in record { follows = r.0; seconds = r.1 }

@@ -5,8 +5,8 @@ use Rattle.syntax.proofs.channel.channel.Goals as goal
 
 pub returns-in_err-n : goal.returns-in_err-n
 returns-in_err-n c =
-    rw (raised c.from_residual.ensures.1) (let r = channel-fault c.args.spot.now.toks.now c.args.nodes.now _ c.args.spot.now.at c.args.spot.now.used (c.expr.ensures.follows, c.expr.ensures.parsed) c.in_err-n.was in record { follows = r.0; parsed = r.1 })
+    rw (raised c.from_residual.ensures.1) (let r = channel-fault c.args.toks.now c.args.nodes.now _ c.args.at c.args.used (c.expr.ensures.follows, c.expr.ensures.parsed) c.in_err-n.was in record { follows = r.0; parsed = r.1 })
 
 pub returns : goal.returns
 returns c =
-    let r = channel-made c.args.spot.now.toks.now c.args.nodes.now _ c.args.spot.now.at c.args.spot.now.used (c.expr.ensures.follows, c.expr.ensures.parsed) _ _ c.in_ok-n.was (rw c.after.ensures.1 at c.seconds.ensures.follows, rw c.after.ensures.1 at c.seconds.ensures.extended) in record { follows = r.0; parsed = r.1 }
+    let r = channel-made c.args.toks.now c.args.nodes.now _ c.args.at c.args.used (c.expr.ensures.follows, c.expr.ensures.parsed) _ _ c.in_ok-n.was (c.seconds.ensures.follows, c.seconds.ensures.extended) in record { follows = r.0; parsed = r.1 }

@@ -4,4 +4,4 @@ use lib.ListN.{length}
 use Rattle.syntax.proofs.condition.+ands.Given as goal
 
 abbrev pub decreases-ands : goal.decreases-ands
-decreases-ands l = length l.left.now.toks.now - l.left.now.at
+decreases-ands l = length l.toks.now - l.at

@@ -6,12 +6,12 @@ use Rattle.syntax.proofs.condition.+ors.Goals as goal
 
 pub returns-then-peek-ne124 : goal.returns-then-peek-ne124
 returns-then-peek-ne124 t c =
-    let r = ors-none _ _ _ _ c.args.left.now.ready.inside (isnt (rw c.spot-spot.ensures.1 at c.peek.ensures) c.if-peek-ne124.true) in record { follows = r.0; extended = r.1 }
+    let r = ors-none _ _ _ _ c.requires.inside (isnt c.peek.ensures c.if-peek-ne124.true) in record { follows = r.0; extended = r.1 }
 
 pub returns-in_err-n : goal.returns-in_err-n
 returns-in_err-n t c =
-    rw (raised c.from_residual.ensures.1) (let r = ors-fault _ _ _ _ _ (same (rw c.spot-spot.ensures.1 at c.peek.ensures) c.if-peek-ne124.false) (rw (c.next.ensures.1, c.spot-spot.ensures.1) at c.conjunction.ensures.follows, rw (c.next.ensures.1, c.spot-spot.ensures.1) at c.conjunction.ensures.parsed) c.in_err-n.was in record { follows = r.0; extended = r.1 })
+    rw (raised c.from_residual.ensures.1) (let r = ors-fault _ _ _ _ _ (same c.peek.ensures c.if-peek-ne124.false) (c.conjunction.ensures.follows, c.conjunction.ensures.parsed) c.in_err-n.was in record { follows = r.0; extended = r.1 })
 
 pub returns : goal.returns
 returns t c =
-    let r = ors-more _ _ _ _ _ (same (rw c.spot-spot.ensures.1 at c.peek.ensures) c.if-peek-ne124.false) (rw (c.next.ensures.1, c.spot-spot.ensures.1) at c.conjunction.ensures.follows, rw (c.next.ensures.1, c.spot-spot.ensures.1) at c.conjunction.ensures.parsed) _ _ _ c.in_ok-n.was (record { written = c.pair.ensures; token-fits = omega arith; left-fits = omega (arith, c.args.left.now.ready.inside, c.args.left.now.ready.room, c.args.left.now.ready.few); third-fits = omega arith }) (rw (c.after.ensures.1, c.spot-spot.ensures.1) at c.ors.ensures.follows, rw (c.after.ensures.1, c.spot-spot.ensures.1) at c.ors.ensures.extended) in record { follows = r.0; extended = r.1 }
+    let r = ors-more _ _ _ _ _ (same c.peek.ensures c.if-peek-ne124.false) (c.conjunction.ensures.follows, c.conjunction.ensures.parsed) _ _ _ c.in_ok-n.was (record { written = c.pair.ensures; token-fits = omega arith; left-fits = omega (arith, c.requires.inside, c.requires.room, c.requires.few); third-fits = omega arith }) (c.ors.ensures.follows, c.ors.ensures.extended) in record { follows = r.0; extended = r.1 }

@@ -4,4 +4,4 @@ use lib.ListN.{length}
 use Rattle.syntax.proofs.condition.+ors.Given as goal
 
 abbrev pub decreases-ors : goal.decreases-ors
-decreases-ors l = length l.left.now.toks.now - l.left.now.at
+decreases-ors l = length l.toks.now - l.at

@@ -14,9 +14,9 @@ unfolding relation_kind
 returns-in_default c =
     let r = compare-stray _ _ _ _ _ _ c.in_ok-n.was (c.expr.ensures.follows, c.expr.ensures.parsed) (apart relation_signs _ (sym c.in_default.is ∙ c.relation_kind.ensures ∙ ap (sign_kind relation_signs) c.peek.ensures)) in record { follows = r.0; parsed = r.1 }
 
-pub to-requires : goal.to-requires
-to-requires c =
-    let m = made_of c.in_ok-n.was c.expr.ensures.parsed in ready-token (ready-after c.args.spot.now.ready m.span) (sign-present _ _ (relation-sign _ _ (hit relation_signs _ _ (sym c.in-Some.is ∙ c.relation_kind.ensures ∙ ap (sign_kind relation_signs) c.peek.ensures))))
+pub expr-requires-2 : goal.expr-requires-2
+expr-requires-2 c =
+    let m = made_of c.in_ok-n.was c.expr.ensures.parsed in ready-token (ready-after c.requires.ready m.span) (sign-present _ _ (relation-sign _ _ (hit relation_signs _ _ (sym c.in-Some.is ∙ c.relation_kind.ensures ∙ ap (sign_kind relation_signs) c.peek.ensures))))
 
 pub overflow_add-kind : goal.overflow_add-kind
 overflow_add-kind c =
@@ -28,8 +28,8 @@ returns-in_err-n c =
 
 pub returns-in_err-m : goal.returns-in_err-m
 returns-in_err-m c =
-    rw (raised c.from_residual-in_err-m.ensures.1) (let r = compare-second _ _ _ _ _ _ c.in_ok-n.was (c.expr.ensures.follows, c.expr.ensures.parsed) _ _ (relation-sign _ _ (hit relation_signs _ _ (sym c.in-Some.is ∙ c.relation_kind.ensures ∙ ap (sign_kind relation_signs) c.peek.ensures))) (rw c.to.ensures.1 at c.expr-2.ensures.follows, rw c.to.ensures.1 at c.expr-2.ensures.parsed) c.in_err-m.was in record { follows = r.0; parsed = r.1 })
+    rw (raised c.from_residual-in_err-m.ensures.1) (let r = compare-second _ _ _ _ _ _ c.in_ok-n.was (c.expr.ensures.follows, c.expr.ensures.parsed) _ _ (relation-sign _ _ (hit relation_signs _ _ (sym c.in-Some.is ∙ c.relation_kind.ensures ∙ ap (sign_kind relation_signs) c.peek.ensures))) (c.expr-2.ensures.follows, c.expr-2.ensures.parsed) c.in_err-m.was in record { follows = r.0; parsed = r.1 })
 
 pub returns : goal.returns
 returns c =
-    let m = made_of c.in_ok-n.was c.expr.ensures.parsed in let r = compare-made _ _ _ _ _ _ c.in_ok-n.was (c.expr.ensures.follows, c.expr.ensures.parsed) _ _ (relation-sign _ _ (hit relation_signs _ _ (sym c.in-Some.is ∙ c.relation_kind.ensures ∙ ap (sign_kind relation_signs) c.peek.ensures))) (rw c.to.ensures.1 at c.expr-2.ensures.follows, rw c.to.ensures.1 at c.expr-2.ensures.parsed) c.in_ok-m.was (record { written = c.pair.ensures; token-fits = omega arith; left-fits = omega (arith, m.span.onward, m.span.within, m.span.more, m.span.fewer, c.args.spot.now.ready.inside, c.args.spot.now.ready.room, c.args.spot.now.ready.few); third-fits = omega arith }) in record { follows = r.0; parsed = r.1 }
+    let m = made_of c.in_ok-n.was c.expr.ensures.parsed in let r = compare-made _ _ _ _ _ _ c.in_ok-n.was (c.expr.ensures.follows, c.expr.ensures.parsed) _ _ (relation-sign _ _ (hit relation_signs _ _ (sym c.in-Some.is ∙ c.relation_kind.ensures ∙ ap (sign_kind relation_signs) c.peek.ensures))) (c.expr-2.ensures.follows, c.expr-2.ensures.parsed) c.in_ok-m.was (record { written = c.pair.ensures; token-fits = omega arith; left-fits = omega (arith, m.span.onward, m.span.within, m.span.more, m.span.fewer, c.requires.ready.inside, c.requires.ready.room, c.requires.ready.few); third-fits = omega arith }) in record { follows = r.0; parsed = r.1 }

@@ -9,4 +9,4 @@ returns-in_err-n c =
 
 pub returns : goal.returns
 returns c =
-    let r = condition-made _ _ _ _ _ _ _ c.in_ok-n.was (c.conjunction.ensures.follows, c.conjunction.ensures.parsed) (rw c.after.ensures.1 at c.ors.ensures.follows, rw c.after.ensures.1 at c.ors.ensures.extended) in record { follows = r.0; parsed = r.1 }
+    let r = condition-made _ _ _ _ _ _ _ c.in_ok-n.was (c.conjunction.ensures.follows, c.conjunction.ensures.parsed) (c.ors.ensures.follows, c.ors.ensures.extended) in record { follows = r.0; parsed = r.1 }

@@ -9,4 +9,4 @@ returns-in_err-n c =
 
 pub returns : goal.returns
 returns c =
-    let r = conjunction-made _ _ _ _ _ _ _ c.in_ok-n.was (c.test.ensures.follows, c.test.ensures.parsed) (rw c.after.ensures.1 at c.ands.ensures.follows, rw c.after.ensures.1 at c.ands.ensures.extended) in record { follows = r.0; parsed = r.1 }
+    let r = conjunction-made _ _ _ _ _ _ _ c.in_ok-n.was (c.test.ensures.follows, c.test.ensures.parsed) (c.ands.ensures.follows, c.ands.ensures.extended) in record { follows = r.0; parsed = r.1 }

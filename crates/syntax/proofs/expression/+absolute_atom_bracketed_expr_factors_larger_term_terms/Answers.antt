@@ -1,6 +1,6 @@
 use mathlib.Core.Path.{sym, ap, ◌∙◌}
 use native.Mathlib.Omega.{arith}
-use Rattle.grammar.proofs.Follows.{same, isnt}
+use Rattle.grammar.proofs.Follows.{inside, same, isnt}
 use Rattle.tree.specs.Node.{op_kind}
 use Rattle.tree.proofs.Spans.{made_of, ready-token}
 use Rattle.syntax.specs.Signs.{sum_signs, product_signs, sign_kind}
@@ -11,37 +11,37 @@ use Rattle.syntax.proofs.expression.+absolute_atom_bracketed_expr_factors_larger
 
 pub absolute-returns-then-peek-ne40 : goal.absolute-returns-then-peek-ne40
 absolute-returns-then-peek-ne40 t c =
-    let r = absolute-stray _ _ _ _ c.args.spot.now.ready.inside (isnt c.peek.ensures c.if-peek-ne40.true) in record { follows = r.0; parsed = r.1 }
+    let r = absolute-stray _ _ _ _ c.requires.inside (isnt c.peek.ensures c.if-peek-ne40.true) in record { follows = r.0; parsed = r.1 }
 
 pub absolute-returns-in_err-n : goal.absolute-returns-in_err-n
 absolute-returns-in_err-n t c =
-    rw (raised c.from_residual.ensures.1) (let r = absolute-fault _ _ _ _ _ (same c.peek.ensures c.if-peek-ne40.false) (rw c.next.ensures.1 at c.bracketed.ensures.follows, rw c.next.ensures.1 at c.bracketed.ensures.parsed) c.in_err-n.was in record { follows = r.0; parsed = r.1 })
+    rw (raised c.from_residual.ensures.1) (let r = absolute-fault _ _ _ _ _ (same c.peek.ensures c.if-peek-ne40.false) (c.bracketed.ensures.follows, c.bracketed.ensures.parsed) c.in_err-n.was in record { follows = r.0; parsed = r.1 })
 
 pub absolute-returns : goal.absolute-returns
 absolute-returns t c =
-    let r = absolute-made _ _ _ _ _ (same c.peek.ensures c.if-peek-ne40.false) (rw c.next.ensures.1 at c.bracketed.ensures.follows, rw c.next.ensures.1 at c.bracketed.ensures.parsed) c.in_ok-n.was (record { written = c.node.ensures; token-fits = omega arith; left-fits = omega arith; third-fits = omega arith }) in record { follows = r.0; parsed = r.1 }
+    let r = absolute-made _ _ _ _ _ (same c.peek.ensures c.if-peek-ne40.false) (c.bracketed.ensures.follows, c.bracketed.ensures.parsed) c.in_ok-n.was (record { written = c.node.ensures; token-fits = omega arith; left-fits = omega arith; third-fits = omega arith }) in record { follows = r.0; parsed = r.1 }
 
 pub atom-returns-in-1 : goal.atom-returns-in-1
 atom-returns-in-1 t c =
-    let r = atom-name _ _ _ _ _ (same c.peek.ensures c.in-1.is) (record { written = c.leaf.ensures; token-fits = omega (arith, c.args.spot.now.ready.inside, c.args.spot.now.ready.room, c.args.spot.now.ready.few); left-fits = omega arith; third-fits = omega arith }) in record { follows = r.0; parsed = r.1 }
+    let r = atom-name _ _ _ _ _ (same c.peek.ensures c.in-1.is) (record { written = c.leaf.ensures; token-fits = omega (arith, c.requires.inside, c.requires.room, c.requires.few); left-fits = omega arith; third-fits = omega arith }) in record { follows = r.0; parsed = r.1 }
 
 pub atom-returns-in-40 : goal.atom-returns-in-40
 atom-returns-in-40 t c =
-    let r = atom-bracketed _ _ _ _ _ _ (same c.peek.ensures c.in-40.is) (rw c.next.ensures.1 at c.bracketed.ensures.follows, rw c.next.ensures.1 at c.bracketed.ensures.parsed) in record { follows = r.0; parsed = r.1 }
+    let r = atom-bracketed _ _ _ _ _ _ (same c.peek.ensures c.in-40.is) (c.bracketed.ensures.follows, c.bracketed.ensures.parsed) in record { follows = r.0; parsed = r.1 }
 
 pub atom-returns-in-5 : goal.atom-returns-in-5
 atom-returns-in-5 t c =
-    let r = atom-absolute _ _ _ _ _ _ (same c.peek.ensures c.in-5.is) (rw c.next-in-5.ensures.1 at c.absolute.ensures.follows, rw c.next-in-5.ensures.1 at c.absolute.ensures.parsed) in record { follows = r.0; parsed = r.1 }
+    let r = atom-absolute _ _ _ _ _ _ (same c.peek.ensures c.in-5.is) (c.absolute.ensures.follows, c.absolute.ensures.parsed) in record { follows = r.0; parsed = r.1 }
 
 pub atom-returns-in-6 : goal.atom-returns-in-6
 unfolding op_kind
 atom-returns-in-6 t c =
-    let r = atom-maximum _ _ _ _ _ _ (same c.peek.ensures c.in-6.is) (rw c.next-in-6.ensures.1 at c.larger.ensures.follows, rw c.next-in-6.ensures.1 at c.larger.ensures.parsed) in record { follows = r.0; parsed = r.1 }
+    let r = atom-maximum _ _ _ _ _ _ (same c.peek.ensures c.in-6.is) (c.larger.ensures.follows, c.larger.ensures.parsed) in record { follows = r.0; parsed = r.1 }
 
 pub atom-returns-in-7 : goal.atom-returns-in-7
 unfolding op_kind
 atom-returns-in-7 t c =
-    let r = atom-minimum _ _ _ _ _ _ (same c.peek.ensures c.in-7.is) (rw c.next-in-7.ensures.1 at c.larger-in-7.ensures.follows, rw c.next-in-7.ensures.1 at c.larger-in-7.ensures.parsed) in record { follows = r.0; parsed = r.1 }
+    let r = atom-minimum _ _ _ _ _ _ (same c.peek.ensures c.in-7.is) (c.larger-in-7.ensures.follows, c.larger-in-7.ensures.parsed) in record { follows = r.0; parsed = r.1 }
 
 pub atom-returns-in_default : goal.atom-returns-in_default
 atom-returns-in_default t c =
@@ -65,44 +65,44 @@ expr-returns-in_err-n t c =
 
 pub expr-returns : goal.expr-returns
 expr-returns t c =
-    let r = expr-made _ _ _ _ _ _ _ c.in_ok-n.was (c.term.ensures.follows, c.term.ensures.parsed) (rw c.after.ensures.1 at c.terms.ensures.follows, rw c.after.ensures.1 at c.terms.ensures.extended) in record { follows = r.0; parsed = r.1 }
+    let r = expr-made _ _ _ _ _ _ _ c.in_ok-n.was (c.term.ensures.follows, c.term.ensures.parsed) (c.terms.ensures.follows, c.terms.ensures.extended) in record { follows = r.0; parsed = r.1 }
 
 pub factors-returns-in_default : goal.factors-returns-in_default
 unfolding op_kind
 factors-returns-in_default t c =
-    let r = factors-none _ _ _ _ c.args.left.now.ready.inside (apart product_signs _ (sym c.in_default.is ∙ c.product_kind.ensures ∙ ap (sign_kind product_signs) (rw c.spot-spot.ensures.1 at c.peek.ensures))) in record { follows = r.0; extended = r.1 }
+    let r = factors-none _ _ _ _ c.requires.inside (apart product_signs _ (sym c.in_default.is ∙ c.product_kind.ensures ∙ ap (sign_kind product_signs) c.peek.ensures)) in record { follows = r.0; extended = r.1 }
 
-pub factors-next-requires : goal.factors-next-requires
-factors-next-requires t c =
-    rw c.spot-spot.ensures.1 (ready-token c.args.left.now.ready (factor-sign _ _ (hit product_signs _ _ (sym c.in-Some.is ∙ c.product_kind.ensures ∙ ap (sign_kind product_signs) (rw c.spot-spot.ensures.1 at c.peek.ensures)))).present)
+pub factors-atom-requires : goal.factors-atom-requires
+factors-atom-requires t c =
+    let h = (factor-sign _ _ (hit product_signs _ _ (sym c.in-Some.is ∙ c.product_kind.ensures ∙ ap (sign_kind product_signs) c.peek.ensures))).present in let l = inside c.args.toks.now _ h in (omega arith, ready-token c.requires h)
 
 pub factors-returns-in_err-n : goal.factors-returns-in_err-n
 factors-returns-in_err-n t c =
-    rw (raised c.from_residual.ensures.1) (let r = factors-fault _ _ _ _ _ _ (hit product_signs _ _ (sym c.in-Some.is ∙ c.product_kind.ensures ∙ ap (sign_kind product_signs) (rw c.spot-spot.ensures.1 at c.peek.ensures))) (rw (c.next.ensures.1, c.spot-spot.ensures.1) at c.atom.ensures.follows, rw (c.next.ensures.1, c.spot-spot.ensures.1) at c.atom.ensures.parsed) c.in_err-n.was in record { follows = r.0; extended = r.1 })
+    rw (raised c.from_residual.ensures.1) (let r = factors-fault _ _ _ _ _ _ (hit product_signs _ _ (sym c.in-Some.is ∙ c.product_kind.ensures ∙ ap (sign_kind product_signs) c.peek.ensures)) (c.atom.ensures.follows, c.atom.ensures.parsed) c.in_err-n.was in record { follows = r.0; extended = r.1 })
 
 pub factors-returns : goal.factors-returns
 factors-returns t c =
-    let r = factors-more _ _ _ _ _ _ _ _ _ (hit product_signs _ _ (sym c.in-Some.is ∙ c.product_kind.ensures ∙ ap (sign_kind product_signs) (rw c.spot-spot.ensures.1 at c.peek.ensures))) (rw (c.next.ensures.1, c.spot-spot.ensures.1) at c.atom.ensures.follows, rw (c.next.ensures.1, c.spot-spot.ensures.1) at c.atom.ensures.parsed) c.in_ok-n.was (record { written = c.pair.ensures; token-fits = omega arith; left-fits = omega (arith, c.args.left.now.ready.inside, c.args.left.now.ready.room, c.args.left.now.ready.few); third-fits = omega arith }) (rw (c.after.ensures.1, c.spot-spot.ensures.1) at c.factors.ensures.follows, rw (c.after.ensures.1, c.spot-spot.ensures.1) at c.factors.ensures.extended) in record { follows = r.0; extended = r.1 }
+    let r = factors-more _ _ _ _ _ _ _ _ _ (hit product_signs _ _ (sym c.in-Some.is ∙ c.product_kind.ensures ∙ ap (sign_kind product_signs) c.peek.ensures)) (c.atom.ensures.follows, c.atom.ensures.parsed) c.in_ok-n.was (record { written = c.pair.ensures; token-fits = omega arith; left-fits = omega (arith, c.requires.inside, c.requires.room, c.requires.few); third-fits = omega arith }) (c.factors.ensures.follows, c.factors.ensures.extended) in record { follows = r.0; extended = r.1 }
 
 pub larger-returns-then-peek-ne40 : goal.larger-returns-then-peek-ne40
 larger-returns-then-peek-ne40 t c =
-    let r = larger-stray _ _ _ _ _ c.args.spot.now.ready.inside (isnt c.peek.ensures c.if-peek-ne40.true) in record { follows = r.0; parsed = r.1 }
+    let r = larger-stray _ _ _ _ _ c.requires.inside (isnt c.peek.ensures c.if-peek-ne40.true) in record { follows = r.0; parsed = r.1 }
 
 pub larger-returns-then-peek-ne44 : goal.larger-returns-then-peek-ne44
 larger-returns-then-peek-ne44 t c =
-    let r = larger-comma _ _ _ _ _ _ (same c.peek.ensures c.if-peek-ne40.false) (rw c.next.ensures.1 at c.expr.ensures.follows, rw c.next.ensures.1 at c.expr.ensures.parsed) c.in_ok-n.was (isnt c.peek-2.ensures c.if-peek-ne44.true) in record { follows = r.0; parsed = r.1 }
+    let r = larger-comma _ _ _ _ _ _ (same c.peek.ensures c.if-peek-ne40.false) (c.expr.ensures.follows, c.expr.ensures.parsed) c.in_ok-n.was (isnt c.peek-2.ensures c.if-peek-ne44.true) in record { follows = r.0; parsed = r.1 }
 
 pub larger-returns-in_err-n : goal.larger-returns-in_err-n
 larger-returns-in_err-n t c =
-    rw (raised c.from_residual.ensures.1) (let r = larger-fault _ _ _ _ _ _ (same c.peek.ensures c.if-peek-ne40.false) (rw c.next.ensures.1 at c.expr.ensures.follows, rw c.next.ensures.1 at c.expr.ensures.parsed) c.in_err-n.was in record { follows = r.0; parsed = r.1 })
+    rw (raised c.from_residual.ensures.1) (let r = larger-fault _ _ _ _ _ _ (same c.peek.ensures c.if-peek-ne40.false) (c.expr.ensures.follows, c.expr.ensures.parsed) c.in_err-n.was in record { follows = r.0; parsed = r.1 })
 
 pub larger-returns-in_err-m : goal.larger-returns-in_err-m
 larger-returns-in_err-m t c =
-    rw (raised c.from_residual-in_err-m.ensures.1) (let r = larger-second _ _ _ _ _ _ (same c.peek.ensures c.if-peek-ne40.false) (rw c.next.ensures.1 at c.expr.ensures.follows, rw c.next.ensures.1 at c.expr.ensures.parsed) c.in_ok-n.was _ (same c.peek-2.ensures c.if-peek-ne44.false) (rw c.to.ensures.1 at c.bracketed.ensures.follows, rw c.to.ensures.1 at c.bracketed.ensures.parsed) c.in_err-m.was in record { follows = r.0; parsed = r.1 })
+    rw (raised c.from_residual-in_err-m.ensures.1) (let r = larger-second _ _ _ _ _ _ (same c.peek.ensures c.if-peek-ne40.false) (c.expr.ensures.follows, c.expr.ensures.parsed) c.in_ok-n.was _ (same c.peek-2.ensures c.if-peek-ne44.false) (c.bracketed.ensures.follows, c.bracketed.ensures.parsed) c.in_err-m.was in record { follows = r.0; parsed = r.1 })
 
 pub larger-returns : goal.larger-returns
 larger-returns t c =
-    let m = made_of c.in_ok-n.was (rw c.next.ensures.1 at c.expr.ensures.parsed) in let r = larger-made _ _ _ _ _ _ (same c.peek.ensures c.if-peek-ne40.false) (rw c.next.ensures.1 at c.expr.ensures.follows, rw c.next.ensures.1 at c.expr.ensures.parsed) c.in_ok-n.was _ (same c.peek-2.ensures c.if-peek-ne44.false) (rw c.to.ensures.1 at c.bracketed.ensures.follows, rw c.to.ensures.1 at c.bracketed.ensures.parsed) c.in_ok-m.was (record { written = c.pair.ensures; token-fits = omega arith; left-fits = omega (arith, m.span.onward, m.span.within, m.span.more, m.span.fewer, c.args.spot.now.ready.inside, c.args.spot.now.ready.room, c.args.spot.now.ready.few); third-fits = omega arith }) in record { follows = r.0; parsed = r.1 }
+    let m = made_of c.in_ok-n.was (c.expr.ensures.parsed) in let r = larger-made _ _ _ _ _ _ (same c.peek.ensures c.if-peek-ne40.false) (c.expr.ensures.follows, c.expr.ensures.parsed) c.in_ok-n.was _ (same c.peek-2.ensures c.if-peek-ne44.false) (c.bracketed.ensures.follows, c.bracketed.ensures.parsed) c.in_ok-m.was (record { written = c.pair.ensures; token-fits = omega arith; left-fits = omega (arith, m.span.onward, m.span.within, m.span.more, m.span.fewer, c.requires.inside, c.requires.room, c.requires.few); third-fits = omega arith }) in record { follows = r.0; parsed = r.1 }
 
 pub term-returns-in_err-n : goal.term-returns-in_err-n
 term-returns-in_err-n t c =
@@ -110,21 +110,21 @@ term-returns-in_err-n t c =
 
 pub term-returns : goal.term-returns
 term-returns t c =
-    let r = term_made _ _ _ _ _ _ _ c.in_ok-n.was (c.atom.ensures.follows, c.atom.ensures.parsed) (rw c.after.ensures.1 at c.factors.ensures.follows, rw c.after.ensures.1 at c.factors.ensures.extended) in record { follows = r.0; parsed = r.1 }
+    let r = term_made _ _ _ _ _ _ _ c.in_ok-n.was (c.atom.ensures.follows, c.atom.ensures.parsed) (c.factors.ensures.follows, c.factors.ensures.extended) in record { follows = r.0; parsed = r.1 }
 
 pub terms-returns-in_default : goal.terms-returns-in_default
 unfolding op_kind
 terms-returns-in_default t c =
-    let r = terms-none _ _ _ _ c.args.left.now.ready.inside (apart sum_signs _ (sym c.in_default.is ∙ c.sum_kind.ensures ∙ ap (sign_kind sum_signs) (rw c.spot-spot.ensures.1 at c.peek.ensures))) in record { follows = r.0; extended = r.1 }
+    let r = terms-none _ _ _ _ c.requires.inside (apart sum_signs _ (sym c.in_default.is ∙ c.sum_kind.ensures ∙ ap (sign_kind sum_signs) c.peek.ensures)) in record { follows = r.0; extended = r.1 }
 
-pub terms-next-requires : goal.terms-next-requires
-terms-next-requires t c =
-    rw c.spot-spot.ensures.1 (ready-token c.args.left.now.ready (term-sign _ _ (hit sum_signs _ _ (sym c.in-Some.is ∙ c.sum_kind.ensures ∙ ap (sign_kind sum_signs) (rw c.spot-spot.ensures.1 at c.peek.ensures)))).present)
+pub terms-term-requires : goal.terms-term-requires
+terms-term-requires t c =
+    let h = (term-sign _ _ (hit sum_signs _ _ (sym c.in-Some.is ∙ c.sum_kind.ensures ∙ ap (sign_kind sum_signs) c.peek.ensures))).present in let l = inside c.args.toks.now _ h in (omega arith, ready-token c.requires h)
 
 pub terms-returns-in_err-n : goal.terms-returns-in_err-n
 terms-returns-in_err-n t c =
-    rw (raised c.from_residual.ensures.1) (let r = terms-fault _ _ _ _ _ _ (hit sum_signs _ _ (sym c.in-Some.is ∙ c.sum_kind.ensures ∙ ap (sign_kind sum_signs) (rw c.spot-spot.ensures.1 at c.peek.ensures))) (rw (c.next.ensures.1, c.spot-spot.ensures.1) at c.term.ensures.follows, rw (c.next.ensures.1, c.spot-spot.ensures.1) at c.term.ensures.parsed) c.in_err-n.was in record { follows = r.0; extended = r.1 })
+    rw (raised c.from_residual.ensures.1) (let r = terms-fault _ _ _ _ _ _ (hit sum_signs _ _ (sym c.in-Some.is ∙ c.sum_kind.ensures ∙ ap (sign_kind sum_signs) c.peek.ensures)) (c.term.ensures.follows, c.term.ensures.parsed) c.in_err-n.was in record { follows = r.0; extended = r.1 })
 
 pub terms-returns : goal.terms-returns
 terms-returns t c =
-    let r = terms-more _ _ _ _ _ _ _ _ _ (hit sum_signs _ _ (sym c.in-Some.is ∙ c.sum_kind.ensures ∙ ap (sign_kind sum_signs) (rw c.spot-spot.ensures.1 at c.peek.ensures))) (rw (c.next.ensures.1, c.spot-spot.ensures.1) at c.term.ensures.follows, rw (c.next.ensures.1, c.spot-spot.ensures.1) at c.term.ensures.parsed) c.in_ok-n.was (record { written = c.pair.ensures; token-fits = omega arith; left-fits = omega (arith, c.args.left.now.ready.inside, c.args.left.now.ready.room, c.args.left.now.ready.few); third-fits = omega arith }) (rw (c.after.ensures.1, c.spot-spot.ensures.1) at c.terms.ensures.follows, rw (c.after.ensures.1, c.spot-spot.ensures.1) at c.terms.ensures.extended) in record { follows = r.0; extended = r.1 }
+    let r = terms-more _ _ _ _ _ _ _ _ _ (hit sum_signs _ _ (sym c.in-Some.is ∙ c.sum_kind.ensures ∙ ap (sign_kind sum_signs) c.peek.ensures)) (c.term.ensures.follows, c.term.ensures.parsed) c.in_ok-n.was (record { written = c.pair.ensures; token-fits = omega arith; left-fits = omega (arith, c.requires.inside, c.requires.room, c.requires.few); third-fits = omega arith }) (c.terms.ensures.follows, c.terms.ensures.extended) in record { follows = r.0; extended = r.1 }

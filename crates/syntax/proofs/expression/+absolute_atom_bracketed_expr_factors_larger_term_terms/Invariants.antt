@@ -5,25 +5,25 @@ use lib.ListN.{length}
 use Rattle.syntax.proofs.expression.+absolute_atom_bracketed_expr_factors_larger_term_terms.Given as goal
 
 abbrev pub decreases-absolute : goal.decreases-absolute
-decreases-absolute l = 4 * (length l.spot.now.toks.now - l.spot.now.at) + 0
+decreases-absolute l = 4 * (length l.toks.now - l.at) + 0
 
 abbrev pub decreases-atom : goal.decreases-atom
-decreases-atom l = 4 * (length l.spot.now.toks.now - l.spot.now.at) + 0
+decreases-atom l = 4 * (length l.toks.now - l.at) + 0
 
 abbrev pub decreases-bracketed : goal.decreases-bracketed
-decreases-bracketed l = 4 * (length l.spot.now.toks.now - l.spot.now.at) + 3
+decreases-bracketed l = 4 * (length l.toks.now - l.at) + 3
 
 abbrev pub decreases-expr : goal.decreases-expr
-decreases-expr l = 4 * (length l.spot.now.toks.now - l.spot.now.at) + 2
+decreases-expr l = 4 * (length l.toks.now - l.at) + 2
 
 abbrev pub decreases-factors : goal.decreases-factors
-decreases-factors l = 4 * (length l.left.now.toks.now - l.left.now.at) + 0
+decreases-factors l = 4 * (length l.toks.now - l.at) + 0
 
 abbrev pub decreases-larger : goal.decreases-larger
-decreases-larger l = 4 * (length l.spot.now.toks.now - l.spot.now.at) + 0
+decreases-larger l = 4 * (length l.toks.now - l.at) + 0
 
 abbrev pub decreases-term : goal.decreases-term
-decreases-term l = 4 * (length l.spot.now.toks.now - l.spot.now.at) + 1
+decreases-term l = 4 * (length l.toks.now - l.at) + 1
 
 abbrev pub decreases-terms : goal.decreases-terms
-decreases-terms l = 4 * (length l.left.now.toks.now - l.left.now.at) + 0
+decreases-terms l = 4 * (length l.toks.now - l.at) + 0

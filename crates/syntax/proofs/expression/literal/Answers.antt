@@ -10,7 +10,7 @@ returns-then-t-eq-WHOLE c =
 
 pub returns-then-t-ne45 : goal.returns-then-t-ne45
 returns-then-t-ne45 c =
-    let r = literal-stray _ _ _ _ c.args.spot.now.ready.inside (isnt c.peek-t.ensures c.if-t-eq-WHOLE.false) (isnt c.peek-t.ensures c.if-t-ne45.true) in record { follows = r.0; parsed = r.1 }
+    let r = literal-stray _ _ _ _ c.requires.inside (isnt c.peek-t.ensures c.if-t-eq-WHOLE.false) (isnt c.peek-t.ensures c.if-t-ne45.true) in record { follows = r.0; parsed = r.1 }
 
 pub returns-then-peek-ne-WHOLE : goal.returns-then-peek-ne-WHOLE
 returns-then-peek-ne-WHOLE c =

@@ -23,16 +23,16 @@ model-returns t c =
 
 pub variable-returns-then-peek-ne59 : goal.variable-returns-then-peek-ne59
 variable-returns-then-peek-ne59 t c =
-    let r = variable-open _ _ _ _ _ (rw c.to.ensures.1 at c.number.ensures.follows, rw c.to.ensures.1 at c.number.ensures.parsed) c.in_ok-n.was (isnt c.peek.ensures c.if-peek-ne59.true) in record { follows = r.0; parsed = r.1 }
+    let r = variable-open _ _ _ _ _ (c.number.ensures.follows, c.number.ensures.parsed) c.in_ok-n.was (isnt c.peek.ensures c.if-peek-ne59.true) in record { follows = r.0; parsed = r.1 }
 
 pub variable-returns-in_err-n : goal.variable-returns-in_err-n
 variable-returns-in_err-n t c =
-    rw (raised c.from_residual.ensures.1) (let r = variable-number _ _ _ _ _ (rw c.to.ensures.1 at c.number.ensures.follows, rw c.to.ensures.1 at c.number.ensures.parsed) c.in_err-n.was in record { follows = r.0; parsed = r.1 })
+    rw (raised c.from_residual.ensures.1) (let r = variable-number _ _ _ _ _ (c.number.ensures.follows, c.number.ensures.parsed) c.in_err-n.was in record { follows = r.0; parsed = r.1 })
 
 pub variable-returns-in_err-m : goal.variable-returns-in_err-m
 variable-returns-in_err-m t c =
-    rw (raised c.from_residual-in_err-m.ensures.1) (let r = variable-rest _ _ _ _ _ (rw c.to.ensures.1 at c.number.ensures.follows, rw c.to.ensures.1 at c.number.ensures.parsed) c.in_ok-n.was _ (same c.peek.ensures c.if-peek-ne59.false) (rw c.to-2.ensures.1 at c.model.ensures.follows, rw c.to-2.ensures.1 at c.model.ensures.parsed) c.in_err-m.was in record { follows = r.0; parsed = r.1 })
+    rw (raised c.from_residual-in_err-m.ensures.1) (let r = variable-rest _ _ _ _ _ (c.number.ensures.follows, c.number.ensures.parsed) c.in_ok-n.was _ (same c.peek.ensures c.if-peek-ne59.false) (rw c.to.ensures.1 at c.model.ensures.follows, rw c.to.ensures.1 at c.model.ensures.parsed) c.in_err-m.was in record { follows = r.0; parsed = r.1 })
 
 pub variable-returns : goal.variable-returns
 variable-returns t c =
-    let m = made_of c.in_ok-n.was (rw c.to.ensures.1 at c.number.ensures.parsed) in let q = ready-after (ready-third c.args.named.now.spot.ready (omega (arith, c.args.named.now.sign))) m.span in let r = variable-made _ _ _ _ _ (rw c.to.ensures.1 at c.number.ensures.follows, rw c.to.ensures.1 at c.number.ensures.parsed) c.in_ok-n.was _ (same c.peek.ensures c.if-peek-ne59.false) (rw c.to-2.ensures.1 at c.model.ensures.follows, rw c.to-2.ensures.1 at c.model.ensures.parsed) c.args.named.now.name c.args.named.now.sign c.in_ok-m.was (record { written = c.node.ensures; token-fits = omega (arith, c.args.named.now.spot.ready.inside, c.args.named.now.spot.ready.room); left-fits = omega (arith, q.inside, q.room, q.few); third-fits = omega arith }) in record { follows = r.0; parsed = r.1 }
+    let m = made_of c.in_ok-n.was c.number.ensures.parsed in let q = ready-after (ready-third c.args.named.now.spot.ready (omega (arith, c.args.named.now.sign))) m.span in let r = variable-made _ _ _ _ _ (c.number.ensures.follows, c.number.ensures.parsed) c.in_ok-n.was _ (same c.peek.ensures c.if-peek-ne59.false) (rw c.to.ensures.1 at c.model.ensures.follows, rw c.to.ensures.1 at c.model.ensures.parsed) c.args.named.now.name c.args.named.now.sign c.in_ok-m.was (record { written = c.node.ensures; token-fits = omega (arith, c.args.named.now.spot.ready.inside, c.args.named.now.spot.ready.room); left-fits = omega (arith, q.inside, q.room, q.few); third-fits = omega arith }) in record { follows = r.0; parsed = r.1 }

@@ -4,4 +4,4 @@ use lib.ListN.{length}
 use Rattle.syntax.proofs.line.+wholes.Given as goal
 
 abbrev pub decreases-wholes : goal.decreases-wholes
-decreases-wholes l = length l.spot.now.toks.now - l.spot.now.at
+decreases-wholes l = length l.toks.now - l.at

@@ -16,8 +16,8 @@ returns-then-peek-eq93 c =
 
 pub returns-in_err-m : goal.returns-in_err-m
 returns-in_err-m c =
-    rw (raised c.from_residual.ensures.1) (let r = starts-fault _ _ _ _ _ _ _ (same c.peek.ensures c.if-peek-ne91.false) (isnt c.peek-2.ensures c.if-peek-eq93.false) (rw c.to.ensures.1 at c.wholes.ensures.follows, rw c.to.ensures.1 at c.wholes.ensures.tallied) c.in_err-m.was in record { follows = r.0; parsed = r.1 })
+    rw (raised c.from_residual.ensures.1) (let r = starts-fault _ _ _ _ _ _ _ (same c.peek.ensures c.if-peek-ne91.false) (isnt c.peek-2.ensures c.if-peek-eq93.false) (c.wholes.ensures.follows, c.wholes.ensures.tallied) c.in_err-m.was in record { follows = r.0; parsed = r.1 })
 
 pub returns : goal.returns
 returns c =
-    let w = tally-of c.in_ok-m.was (rw c.to.ensures.1 at c.wholes.ensures.tallied) in let r = starts-made _ _ _ _ _ _ _ (same c.peek.ensures c.if-peek-ne91.false) (isnt c.peek-2.ensures c.if-peek-eq93.false) (rw c.to.ensures.1 at c.wholes.ensures.follows, rw c.to.ensures.1 at c.wholes.ensures.tallied) c.in_ok-m.was (record { written = c.node.ensures; token-fits = omega (arith, c.args.spot.now.ready.room, c.args.spot.now.ready.inside, c.requires.name_before); left-fits = omega arith; third-fits = omega (arith, c.args.spot.now.ready.room, w.made.span.within, w.rarer) }) in record { follows = r.0; parsed = r.1 }
+    let w = tally-of c.in_ok-m.was (c.wholes.ensures.tallied) in let r = starts-made _ _ _ _ _ _ _ (same c.peek.ensures c.if-peek-ne91.false) (isnt c.peek-2.ensures c.if-peek-eq93.false) (c.wholes.ensures.follows, c.wholes.ensures.tallied) c.in_ok-m.was (record { written = c.node.ensures; token-fits = omega (arith, c.args.spot.now.ready.room, c.args.spot.now.ready.inside, c.requires.name_before); left-fits = omega arith; third-fits = omega (arith, c.args.spot.now.ready.room, w.made.span.within, w.rarer) }) in record { follows = r.0; parsed = r.1 }

@@ -4,4 +4,4 @@ use lib.ListN.{length}
 use Rattle.syntax.proofs.process.+args.Given as goal
 
 abbrev pub decreases-args : goal.decreases-args
-decreases-args l = length l.spot.now.toks.now - l.spot.now.at
+decreases-args l = length l.toks.now - l.at

@@ -39,23 +39,23 @@ cont-returns-in_ok-n-in_default t c =
 
 pub gated-returns-then-peek-ne93 : goal.gated-returns-then-peek-ne93
 gated-returns-then-peek-ne93 t c =
-    let r = gated-open c.args.site.now.spot.toks.now c.args.nodes.now _ c.args.site.now.spot.at c.args.site.now.spot.used c.args.site.now.sums c.requires.at_value (rw c.next.ensures.1 at c.condition.ensures.follows, rw c.next.ensures.1 at c.condition.ensures.parsed) c.in_ok-n.was (isnt c.peek.ensures c.if-peek-ne93.true) in record { follows = r.0; tallied = r.1.0; spare = r.1.1 }
+    let r = gated-open c.args.site.now.spot.toks.now c.args.nodes.now _ c.args.site.now.spot.at c.args.site.now.spot.used c.args.site.now.sums c.requires.at_value (c.condition.ensures.follows, c.condition.ensures.parsed) c.in_ok-n.was (isnt c.peek.ensures c.if-peek-ne93.true) in record { follows = r.0; tallied = r.1.0; spare = r.1.1 }
 
 pub gated-returns-then-peek : goal.gated-returns-then-peek
 gated-returns-then-peek t c =
-    let r = gated-stray c.args.site.now.spot.toks.now c.args.nodes.now _ c.args.site.now.spot.at c.args.site.now.spot.used c.args.site.now.sums c.requires.at_value (rw c.next.ensures.1 at c.condition.ensures.follows, rw c.next.ensures.1 at c.condition.ensures.parsed) c.in_ok-n.was (same c.peek.ensures c.if-peek-ne93.false) (isnt c.peek-2.ensures c.if-peek.true) in record { follows = r.0; tallied = r.1.0; spare = r.1.1 }
+    let r = gated-stray c.args.site.now.spot.toks.now c.args.nodes.now _ c.args.site.now.spot.at c.args.site.now.spot.used c.args.site.now.sums c.requires.at_value (c.condition.ensures.follows, c.condition.ensures.parsed) c.in_ok-n.was (same c.peek.ensures c.if-peek-ne93.false) (isnt c.peek-2.ensures c.if-peek.true) in record { follows = r.0; tallied = r.1.0; spare = r.1.1 }
 
 pub gated-returns-in_err-n : goal.gated-returns-in_err-n
 gated-returns-in_err-n t c =
-    rw (raised c.from_residual.ensures.1) (let r = gated-fault c.args.site.now.spot.toks.now c.args.nodes.now _ c.args.site.now.spot.at c.args.site.now.spot.used c.args.site.now.sums c.requires.at_value (rw c.next.ensures.1 at c.condition.ensures.follows, rw c.next.ensures.1 at c.condition.ensures.parsed) c.in_err-n.was in record { follows = r.0; tallied = r.1.0; spare = r.1.1 })
+    rw (raised c.from_residual.ensures.1) (let r = gated-fault c.args.site.now.spot.toks.now c.args.nodes.now _ c.args.site.now.spot.at c.args.site.now.spot.used c.args.site.now.sums c.requires.at_value (c.condition.ensures.follows, c.condition.ensures.parsed) c.in_err-n.was in record { follows = r.0; tallied = r.1.0; spare = r.1.1 })
 
 pub gated-returns-in_err-m : goal.gated-returns-in_err-m
 gated-returns-in_err-m t c =
-    rw (raised c.from_residual-in_err-m.ensures.1) (let r = gated-offer-fault c.args.site.now.spot.toks.now c.args.nodes.now _ c.args.site.now.spot.at c.args.site.now.spot.used c.args.site.now.sums c.requires.at_value (rw c.next.ensures.1 at c.condition.ensures.follows, rw c.next.ensures.1 at c.condition.ensures.parsed) c.in_ok-n.was (same c.peek.ensures c.if-peek-ne93.false) (same c.peek-2.ensures c.if-peek.false) _ (rw c.to.ensures.1 at c.offer.ensures.follows, (rw c.to.ensures.1 at c.offer.ensures.tallied, (rw c.to.ensures.1 at c.offer.ensures.spare))) c.in_err-m.was in record { follows = r.0; tallied = r.1.0; spare = r.1.1 })
+    rw (raised c.from_residual-in_err-m.ensures.1) (let r = gated-offer-fault c.args.site.now.spot.toks.now c.args.nodes.now _ c.args.site.now.spot.at c.args.site.now.spot.used c.args.site.now.sums c.requires.at_value (c.condition.ensures.follows, c.condition.ensures.parsed) c.in_ok-n.was (same c.peek.ensures c.if-peek-ne93.false) (same c.peek-2.ensures c.if-peek.false) _ (rw c.to.ensures.1 at c.offer.ensures.follows, (rw c.to.ensures.1 at c.offer.ensures.tallied, (rw c.to.ensures.1 at c.offer.ensures.spare))) c.in_err-m.was in record { follows = r.0; tallied = r.1.0; spare = r.1.1 })
 
 pub gated-returns : goal.gated-returns
 gated-returns t c =
-    let ready = gated-ready c.args.site.now.spot.toks.now c.args.nodes.now _ c.args.site.now.spot.at c.args.site.now.spot.used c.args.site.now.sums c.requires.at_value (rw c.next.ensures.1 at c.condition.ensures.follows, rw c.next.ensures.1 at c.condition.ensures.parsed) c.in_ok-n.was (same c.peek.ensures c.if-peek-ne93.false) (same c.peek-2.ensures c.if-peek.false) c.args.site.now.spot.ready in let r = gated-node c.args.site.now.spot.toks.now c.args.nodes.now _ c.args.site.now.spot.at c.args.site.now.spot.used c.args.site.now.sums c.requires.at_value (rw c.next.ensures.1 at c.condition.ensures.follows, rw c.next.ensures.1 at c.condition.ensures.parsed) c.in_ok-n.was (same c.peek.ensures c.if-peek-ne93.false) (same c.peek-2.ensures c.if-peek.false) _ (rw c.to.ensures.1 at c.offer.ensures.follows, (rw c.to.ensures.1 at c.offer.ensures.tallied, (rw c.to.ensures.1 at c.offer.ensures.spare))) c.in_ok-m.was (record { written = c.node.ensures; token-fits = omega (arith, c.args.site.now.spot.ready.inside, c.args.site.now.spot.ready.room); left-fits = omega (arith, ready.inside, ready.room, ready.few); third-fits = omega arith }) in record { follows = r.0; tallied = r.1.0; spare = r.1.1 }
+    let ready = gated-ready c.args.site.now.spot.toks.now c.args.nodes.now _ c.args.site.now.spot.at c.args.site.now.spot.used c.args.site.now.sums c.requires.at_value (c.condition.ensures.follows, c.condition.ensures.parsed) c.in_ok-n.was (same c.peek.ensures c.if-peek-ne93.false) (same c.peek-2.ensures c.if-peek.false) c.args.site.now.spot.ready in let r = gated-node c.args.site.now.spot.toks.now c.args.nodes.now _ c.args.site.now.spot.at c.args.site.now.spot.used c.args.site.now.sums c.requires.at_value (c.condition.ensures.follows, c.condition.ensures.parsed) c.in_ok-n.was (same c.peek.ensures c.if-peek-ne93.false) (same c.peek-2.ensures c.if-peek.false) _ (rw c.to.ensures.1 at c.offer.ensures.follows, (rw c.to.ensures.1 at c.offer.ensures.tallied, (rw c.to.ensures.1 at c.offer.ensures.spare))) c.in_ok-m.was (record { written = c.node.ensures; token-fits = omega (arith, c.args.site.now.spot.ready.inside, c.args.site.now.spot.ready.room); left-fits = omega (arith, ready.inside, ready.room, ready.few); third-fits = omega arith }) in record { follows = r.0; tallied = r.1.0; spare = r.1.1 }
 
 pub group-returns-in_err-n : goal.group-returns-in_err-n
 group-returns-in_err-n t c =

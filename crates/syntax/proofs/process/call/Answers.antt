@@ -17,8 +17,8 @@ returns-then-peek-eq93 c =
 
 pub returns-in_err-m : goal.returns-in_err-m
 returns-in_err-m c =
-    rw (raised c.from_residual.ensures.1) (let r = call-fault c.args.spot.now.toks.now c.args.nodes.now c.args.spot.now.at c.args.spot.now.used c.args.sums c.requires.at_value (same c.peek.ensures c.if-peek-ne91.false) (isnt c.peek-2.ensures c.if-peek-eq93.false) _ (rw c.to.ensures.1 at c.args-2.ensures.follows, rw c.to.ensures.1 at c.args-2.ensures.tallied) c.in_err-m.was in record { follows = r.0; tallied = r.1 })
+    rw (raised c.from_residual.ensures.1) (let r = call-fault c.args.spot.now.toks.now c.args.nodes.now c.args.spot.now.at c.args.spot.now.used c.args.sums c.requires.at_value (same c.peek.ensures c.if-peek-ne91.false) (isnt c.peek-2.ensures c.if-peek-eq93.false) _ (c.args-2.ensures.follows, c.args-2.ensures.tallied) c.in_err-m.was in record { follows = r.0; tallied = r.1 })
 
 pub returns : goal.returns
 returns c =
-    let s = tally-of c.in_ok-m.was (rw c.to.ensures.1 at c.args-2.ensures.tallied) in let r = call-with c.args.spot.now.toks.now c.args.nodes.now c.args.spot.now.at c.args.spot.now.used c.args.sums c.requires.at_value (same c.peek.ensures c.if-peek-ne91.false) (isnt c.peek-2.ensures c.if-peek-eq93.false) _ (rw c.to.ensures.1 at c.args-2.ensures.follows, rw c.to.ensures.1 at c.args-2.ensures.tallied) c.in_ok-m.was (record { written = c.node.ensures; token-fits = omega (arith, c.args.spot.now.ready.room, in_tok c.args.spot.now.toks.now (c.args.spot.now.at + 1) c.peek.ensures (omega arith)); left-fits = omega arith; third-fits = omega (arith, c.args.spot.now.ready.room, s.made.span.within, s.rarer) }) in record { follows = r.0; tallied = r.1 }
+    let s = tally-of c.in_ok-m.was (c.args-2.ensures.tallied) in let r = call-with c.args.spot.now.toks.now c.args.nodes.now c.args.spot.now.at c.args.spot.now.used c.args.sums c.requires.at_value (same c.peek.ensures c.if-peek-ne91.false) (isnt c.peek-2.ensures c.if-peek-eq93.false) _ (c.args-2.ensures.follows, c.args-2.ensures.tallied) c.in_ok-m.was (record { written = c.node.ensures; token-fits = omega (arith, c.args.spot.now.ready.room, in_tok c.args.spot.now.toks.now (c.args.spot.now.at + 1) c.peek.ensures (omega arith)); left-fits = omega arith; third-fits = omega (arith, c.args.spot.now.ready.room, s.made.span.within, s.rarer) }) in record { follows = r.0; tallied = r.1 }

@@ -7,7 +7,7 @@ use Rattle.syntax.proofs.rate.number.Goals as goal
 pub returns-then-peek-eq45 : goal.returns-then-peek-eq45
 unfolding number_kind
 returns-then-peek-eq45 c =
-    let r = number-negative _ _ _ _ _ _ (same c.peek.ensures c.if-peek-eq45.true) (rw c.next.ensures.1 at c.unsigned.ensures.follows, rw c.next.ensures.1 at c.unsigned.ensures.parsed) in record { follows = r.0; parsed = r.1 }
+    let r = number-negative _ _ _ _ _ _ (same c.peek.ensures c.if-peek-eq45.true) (c.unsigned.ensures.follows, c.unsigned.ensures.parsed) in record { follows = r.0; parsed = r.1 }
 
 pub returns : goal.returns
 unfolding number_kind

@@ -6,7 +6,7 @@ use Rattle.syntax.proofs.rate.scale.Goals as goal
 
 pub returns-then-peek-eq-NAME : goal.returns-then-peek-eq-NAME
 returns-then-peek-eq-NAME c =
-    let r = scale-name _ _ _ _ _ (same c.peek.ensures c.if-peek-eq-NAME.true) (record { written = c.leaf.ensures; token-fits = omega (arith, c.args.spot.now.ready.inside, c.args.spot.now.ready.room, c.args.spot.now.ready.few); left-fits = omega arith; third-fits = omega arith }) in record { follows = r.0; parsed = r.1 }
+    let r = scale-name _ _ _ _ _ (same c.peek.ensures c.if-peek-eq-NAME.true) (record { written = c.leaf.ensures; token-fits = omega (arith, c.requires.inside, c.requires.room, c.requires.few); left-fits = omega arith; third-fits = omega arith }) in record { follows = r.0; parsed = r.1 }
 
 pub returns : goal.returns
 returns c =

@@ -4,4 +4,4 @@ use lib.ListN.{length}
 use Rattle.syntax.proofs.set.+parts.Given as goal
 
 abbrev pub decreases-parts : goal.decreases-parts
-decreases-parts l = length l.left.now.toks.now - l.left.now.at
+decreases-parts l = length l.toks.now - l.at

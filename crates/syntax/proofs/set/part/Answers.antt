@@ -16,8 +16,8 @@ returns-in_err-n c =
 
 pub returns-in_err-m : goal.returns-in_err-m
 returns-in_err-m c =
-    rw (raised c.from_residual-in_err-m.ensures.1) (let r = part-second _ _ _ _ _ c.in_ok-n.was (c.expr.ensures.follows, c.expr.ensures.parsed) _ (same c.peek.ensures c.if-peek.false) (rw c.to.ensures.1 at c.expr-2.ensures.follows, rw c.to.ensures.1 at c.expr-2.ensures.parsed) c.in_err-m.was in record { follows = r.0; parsed = r.1 })
+    rw (raised c.from_residual-in_err-m.ensures.1) (let r = part-second _ _ _ _ _ c.in_ok-n.was (c.expr.ensures.follows, c.expr.ensures.parsed) _ (same c.peek.ensures c.if-peek.false) (c.expr-2.ensures.follows, c.expr-2.ensures.parsed) c.in_err-m.was in record { follows = r.0; parsed = r.1 })
 
 pub returns : goal.returns
 returns c =
-    let m = made_of c.in_ok-n.was c.expr.ensures.parsed in let r = part-range _ _ _ _ _ c.in_ok-n.was (c.expr.ensures.follows, c.expr.ensures.parsed) _ (same c.peek.ensures c.if-peek.false) (rw c.to.ensures.1 at c.expr-2.ensures.follows, rw c.to.ensures.1 at c.expr-2.ensures.parsed) c.in_ok-m.was (record { written = c.pair.ensures; token-fits = omega arith; left-fits = omega (arith, m.span.onward, m.span.within, m.span.more, m.span.fewer, c.args.spot.now.ready.inside, c.args.spot.now.ready.room, c.args.spot.now.ready.few); third-fits = omega arith }) in record { follows = r.0; parsed = r.1 }
+    let m = made_of c.in_ok-n.was c.expr.ensures.parsed in let r = part-range _ _ _ _ _ c.in_ok-n.was (c.expr.ensures.follows, c.expr.ensures.parsed) _ (same c.peek.ensures c.if-peek.false) (c.expr-2.ensures.follows, c.expr-2.ensures.parsed) c.in_ok-m.was (record { written = c.pair.ensures; token-fits = omega arith; left-fits = omega (arith, m.span.onward, m.span.within, m.span.more, m.span.fewer, c.requires.inside, c.requires.room, c.requires.few); third-fits = omega arith }) in record { follows = r.0; parsed = r.1 }

@@ -9,4 +9,4 @@ returns-in_err-n c =
 
 pub returns : goal.returns
 returns c =
-    let r = set-made _ _ _ _ _ _ _ c.in_ok-n.was (c.part.ensures.follows, c.part.ensures.parsed) (rw c.after.ensures.1 at c.parts.ensures.follows, rw c.after.ensures.1 at c.parts.ensures.extended) in record { follows = r.0; parsed = r.1 }
+    let r = set-made _ _ _ _ _ _ _ c.in_ok-n.was (c.part.ensures.follows, c.part.ensures.parsed) (c.parts.ensures.follows, c.parts.ensures.extended) in record { follows = r.0; parsed = r.1 }

@@ -53,7 +53,7 @@ pub fn second(left: &Left, nodes: &mut [u64], first: usize) -> Roots
     ensures follows { Follows left.now.toks.now left.now.at (ThirdItem ∷ the_deed ++ Want kind.close_curly ∷ []) (place_counted result) }
     ensures seconds { Seconds left.now.toks.now nodes.old nodes.new left.now.at first left.now.root result }
 {
-    let (n, root) = channel::thirds(left.toks, left.at, nodes, left.root, first)?;
+    let (n, root) = channel::thirds(left.toks, left.at, nodes, first, left.root)?;
     let (m, deed) = action::deed(left.toks, n, nodes, root)?;
     rated(&left.spot().after(m, deed), nodes)
 }

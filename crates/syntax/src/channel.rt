@@ -31,23 +31,23 @@ pub fn seconds(toks: &[u8], at: usize, nodes: &mut [u64], left: usize) -> Read
         return Ok((at, left));
     }
     let (n, mid) = expression::expr(toks, at + 1, nodes, left + 1)?;
-    thirds(toks, n, nodes, mid, left)
+    thirds(toks, n, nodes, left, mid)
 }
 
-// What follows a channel's first two items, which are at `first` and on the left: perhaps one more. Unlike `seconds` it always makes a node.
-pub fn thirds(toks: &[u8], at: usize, nodes: &mut [u64], left: usize, first: usize) -> Read
-    requires ready { Ready toks.now at (left + 1) }
-    requires first_le_root { first ≤ left }
+// What follows a channel's first two items, which are at `left` and `mid`: perhaps one more. Unlike `seconds` it always makes a node.
+pub fn thirds(toks: &[u8], at: usize, nodes: &mut [u64], left: usize, mid: usize) -> Read
+    requires ready { Ready toks.now at (mid + 1) }
+    requires left_le_mid { left ≤ mid }
     ensures follows { Follows toks.now at (ThirdItem ∷ []) (place result) }
-    ensures items { Items toks.now nodes.old nodes.new at first left result }
+    ensures items { Items toks.now nodes.old nodes.new at left mid result }
 {
     if token::peek(toks, at) != b',' {
-        let root = left + 1;
-        tree::pair(nodes, root, NodeKind::TWO_ITEMS, first);
+        let root = mid + 1;
+        tree::pair(nodes, root, NodeKind::TWO_ITEMS, left);
         return Ok((at, root));
     }
-    let (n, r) = expression::expr(toks, at + 1, nodes, left + 1)?;
+    let (n, r) = expression::expr(toks, at + 1, nodes, mid + 1)?;
     let root = r + 1;
-    tree::node(nodes, root, NodeKind::THREE_ITEMS, 0, first, left);
+    tree::node(nodes, root, NodeKind::THREE_ITEMS, 0, left, mid);
     Ok((n, root))
 }

@@ -5,6 +5,7 @@ ghost use Rattle.tree.specs.Reading.{Ready};
 use crate::left::Left;
 
 // At the token `at`, with `used` nodes of the table used. The nodes are lent beside it: a Spot is copied, and a struct with a `&mut` can't be.
+// The readers of lists, of expressions and of what these make up to an action take the three as words: a Spot goes through memory at each call.
 #[derive(Clone, Copy)]
 pub struct Spot<'a> {
     pub toks: &'a [u8],

@@ -22,6 +22,9 @@ impl Bytes {
     pub const MOST: usize = token::Limits::TEXT;
 
     pub const FIRST: usize = 2;
+
+    // Numbers that a byte has.
+    pub const SIZE: usize = 256;
 }
 
 // Writes an engine's header, a fresh one's as an opened one's: the length of its text, low byte first, and both counts. A step changes a count by state's `put_count`.

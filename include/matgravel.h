@@ -29,9 +29,8 @@ extern "C" {
 #define MATGRAVEL_ENTRY 7
 
 /* Bytes of stack that a thread should have for any call, with room to spare. Measured, not proved, on x86-64: a text of one expression
- * of 8,171 terms took open 1,936,176, list 1,935,760, step 1,935,856, report 1,960,352 and run 2,165,840; the models of this repository
- * take 244,000, 508,000, 508,000, 533,000 and 474,000. Before report and run there were, of some fifty long texts of every kind, none took
- * more than 1,948,880; report and run were not measured on those. */
+ * of 8,171 terms, which needed most of some thousand long texts, took open 1,283,600, list 1,283,536, step 1,304,032, report 1,340,880,
+ * run 1,673,344 and search 2,110,912; the models of this repository take 245,000, 507,000, 528,000, 565,000, 631,000 and 1,335,000. */
 #define MATGRAVEL_STACK 3145728
 
 /* number: 0 for acceptance, or that of the refusal.

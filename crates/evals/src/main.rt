@@ -1,12 +1,14 @@
 #![tactic(auto)]
 
 // Evaluates 01's specimens of values, sets, gates and rates over small tables of settled nodes, and prints a line for each.
-ghost use Rattle.std.specs.Prelude.{◌≡◌, ◌≤◌, ◌<◌, pos};
+ghost use Rattle.std.specs.Prelude.{◌≡◌, ◌≤◌, ◌<◌, pos, None, Some};
+ghost use Rattle.eval.specs.declared.offer.Offer.{Offer};
 ghost use Rattle.model.specs.Good.{scale_limit};
 ghost use Rattle.tables.specs.Settled.{offset, number_cell};
 ghost use Rattle.tree.specs.Node.{literal};
 ghost use Rattle.value.specs.Range.{InRange};
 
+use eval::offer::Offer;
 use eval::{Context, offer};
 use std::fmt::Display;
 use std::io;
@@ -75,7 +77,20 @@ fn in_rest(x: i64, y: i64, z: i64, v: i64) -> bool
     eval::in_set(&context, 4, v)
 }
 
-// The kind of what [i>0] -> {c![y/i],1} offers; 0 behind a false gate, 1 where a part lacks a value: numbers and no Option, as the line prints them.
+// The kind of an offer; 0 of what stands behind a false gate, 1 where a part lacks a value: numbers and no Option, as the line prints them.
+fn kind_shown(offer: Option<Option<Offer>>) -> u8
+    ensures lacking { offer ≡ None → result ≡ 1 }
+    ensures hidden { offer ≡ Some None → result ≡ 0 }
+    ensures offered { (o : Offer) → offer ≡ Some (Some o) → result ≡ o.kind }
+{
+    match offer {
+        Some(Some(o)) => o.kind,
+        Some(None) => 0,
+        None => 1,
+    }
+}
+
+// The kind of what [i>0] -> {c![y/i],1} offers.
 fn gated(i: i64, y: i64) -> u8
     requires { (InRange i) × (InRange y) }
 {
@@ -96,11 +111,7 @@ fn gated(i: i64, y: i64) -> u8
         nodes: &nodes,
         locals: &[i, y],
     };
-    match offer::offer_of(&context, 10) {
-        Some(Some(o)) => o.kind,
-        Some(None) => 0,
-        None => 1,
-    }
+    kind_shown(offer::offer_of(&context, 10))
 }
 
 // A rate of n ten-thousandths.

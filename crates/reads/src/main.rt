@@ -18,7 +18,9 @@ fn place(text: &[u8], places: &[u16], k: usize) -> usize {
     }
 }
 
-// How many tokens a text has that passes questions 5 and 6. Not by `opening::read_tree`, which goes on to what each token holds.
+// How many tokens a text has that passes questions 5 and 6. Not by `opening::read_tree`, which goes on to what each token holds. A body of its own: in one with
+// `judge_bytes` the loops over the text take a fifth more time.
+#[inline(never)]
 fn judge_tokens(text: &[u8]) -> Result<usize, Refusal>
     requires { length text.now ≤ text_limit }
 {

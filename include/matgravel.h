@@ -28,9 +28,10 @@ extern "C" {
 #define MATGRAVEL_ENTRIES 1024
 #define MATGRAVEL_ENTRY 7
 
-/* Bytes of stack that a thread should have for any call, with room to spare. Measured, not proved, on x86-64: a text of one expression
- * of 8,171 terms, which needed most of some thousand long texts, took open 1,283,600, list 1,283,536, step 1,304,032, report 1,340,880,
- * run 1,673,344 and search 2,110,912; the models of this repository take 245,000, 507,000, 528,000, 565,000, 631,000 and 1,335,000. */
+/* Bytes of stack that a thread should have for any call, with room to spare. Measured, not proved, on x86-64: of twenty-two long texts of
+ * every kind a call with 8,181 values needed most, open 1,545,440, list 1,545,376, step 1,565,872, timed_step 1,606,912, report 1,602,720,
+ * run 1,935,184 and search 2,372,752; the models of this repository take at most 245,080, 507,104, 527,600, 568,640, 564,448, 631,712 and
+ * 1,335,328. */
 #define MATGRAVEL_STACK 3145728
 
 /* number: 0 for acceptance, or that of the refusal.

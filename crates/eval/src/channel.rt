@@ -83,12 +83,12 @@ fn item_of(context: &Context, k: usize) -> Option<Item>
         let n = tree::token_of(cell) as i64;
         return Some(Item::Name(n));
     }
-    let value = crate::eval_node(context, k)?;
+    let value = crate::eval_node_lent(context, k)?;
     Some(Item::Number(value))
 }
 
 // What the channel at k comes to.
-pub fn channel_of(context: &Context, k: usize) -> Option<Channel>
+pub fn channel_of_lent(context: &Context, k: usize) -> Option<Channel>
     requires { (m : Resolved.Model) × Held (Settled.Channel context.now.nodes.now) (GoodName m (length context.now.locals.now)) k }
     ensures { Worth (Settled.Channel context.now.nodes.now) (channel_answer context.now.locals.now) k result }
 {

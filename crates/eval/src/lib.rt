@@ -72,7 +72,7 @@ fn apply(kind: u8, x: i64, y: i64) -> Option<i64>
 }
 
 // What the expression at k comes to.
-pub fn eval_node(context: &Context, k: usize) -> Option<i64>
+pub fn eval_node_lent(context: &Context, k: usize) -> Option<i64>
     requires { Held (Settled.Expr context.now.nodes.now) (GoodExpr (length context.now.locals.now)) k }
     ensures { Worth (Settled.Expr context.now.nodes.now) (eval_expr context.now.locals.now) k result }
 {
@@ -85,11 +85,11 @@ pub fn eval_node(context: &Context, k: usize) -> Option<i64>
         return Some(local_at(context.locals, tree::token_of(cell)));
     }
     if kind == NodeKind::ABSOLUTE {
-        let x = eval_node(context, k - 1)?;
+        let x = eval_node_lent(context, k - 1)?;
         return value::abs_value(x);
     }
-    let x = eval_node(context, tree::left_of(cell))?;
-    let y = eval_node(context, k - 1)?;
+    let x = eval_node_lent(context, tree::left_of(cell))?;
+    let y = eval_node_lent(context, k - 1)?;
     apply(kind, x, y)
 }
 
@@ -101,32 +101,32 @@ fn settled(kind: u8, p: bool) -> bool
 }
 
 // Whether v is in the set at k: in a range by two comparisons, as the definition has them. Let-elses, for one value as for two: both answer false of what has none.
-pub fn in_set(context: &Context, k: usize, v: i64) -> bool
+pub fn in_set_lent(context: &Context, k: usize, v: i64) -> bool
     requires { Held (Settled.Set context.now.nodes.now) (GoodSet (length context.now.locals.now)) k }
     ensures { Tells context.now.nodes.now context.now.locals.now v k result }
 {
     let cell = cell_at(context.nodes, k);
     let kind = tree::kind_of(cell);
     if kind < NodeKind::RANGE {
-        let Some(x) = eval_node(context, k) else {
+        let Some(x) = eval_node_lent(context, k) else {
             return false;
         };
         return v == x;
     }
     let i = tree::left_of(cell);
     if kind == NodeKind::RANGE {
-        let x = eval_node(context, i);
-        let y = eval_node(context, k - 1);
+        let x = eval_node_lent(context, i);
+        let y = eval_node_lent(context, k - 1);
         let Some((a, b)) = x.zip(y) else {
             return false;
         };
         return a <= v && v <= b;
     }
-    let p = in_set(context, i, v);
+    let p = in_set_lent(context, i, v);
     if settled(kind, p) {
         return p;
     }
-    let q = in_set(context, k - 1, v);
+    let q = in_set_lent(context, k - 1, v);
     if kind == NodeKind::WITHOUT {
         return !q;
     }
@@ -134,20 +134,20 @@ pub fn in_set(context: &Context, k: usize, v: i64) -> bool
 }
 
 // Whether all ends of the set at k have values.
-pub fn ends_known(context: &Context, k: usize) -> bool
+pub fn ends_known_lent(context: &Context, k: usize) -> bool
     requires { Held (Settled.Set context.now.nodes.now) (GoodSet (length context.now.locals.now)) k }
     ensures { Worth (Settled.Set context.now.nodes.now) (ends_known context.now.locals.now) k result }
 {
     let cell = cell_at(context.nodes, k);
     let kind = tree::kind_of(cell);
     if kind < NodeKind::RANGE {
-        return eval_node(context, k).is_some();
+        return eval_node_lent(context, k).is_some();
     }
     let i = tree::left_of(cell);
     if kind == NodeKind::RANGE {
-        return eval_node(context, i).is_some() && eval_node(context, k - 1).is_some();
+        return eval_node_lent(context, i).is_some() && eval_node_lent(context, k - 1).is_some();
     }
-    ends_known(context, i) && ends_known(context, k - 1)
+    ends_known_lent(context, i) && ends_known_lent(context, k - 1)
 }
 
 // One relation on two values.
@@ -186,7 +186,7 @@ fn decided(kind: u8, p: Option<bool>) -> bool
 }
 
 // Whether the condition at k holds.
-pub fn holds(context: &Context, k: usize) -> Option<bool>
+pub fn holds_lent(context: &Context, k: usize) -> Option<bool>
     requires { Held (Settled.Cond context.now.nodes.now) (GoodCond (length context.now.locals.now)) k }
     ensures { Worth (Settled.Cond context.now.nodes.now) (truth context.now.locals.now) k result }
 {
@@ -194,15 +194,15 @@ pub fn holds(context: &Context, k: usize) -> Option<bool>
     let kind = tree::kind_of(cell);
     let i = tree::left_of(cell);
     if kind < NodeKind::BOTH {
-        let x = eval_node(context, i)?;
-        let y = eval_node(context, k - 1)?;
+        let x = eval_node_lent(context, i)?;
+        let y = eval_node_lent(context, k - 1)?;
         return Some(tested(kind, x, y));
     }
-    let p = holds(context, i);
+    let p = holds_lent(context, i);
     if decided(kind, p) {
         return p;
     }
-    holds(context, k - 1)
+    holds_lent(context, k - 1)
 }
 
 #[derive(Clone, Copy)]
@@ -252,7 +252,7 @@ fn scale_of(context: &Context, k: usize) -> Option<u64>
 }
 
 // What the rate at k comes to.
-pub fn rate_of(context: &Context, k: usize) -> Option<u64>
+pub fn rate_of_lent(context: &Context, k: usize) -> Option<u64>
     requires { Held (Settled.Rate context.now.nodes.now) (GoodRate (length context.now.locals.now)) k }
     ensures { Worth (Settled.Rate context.now.nodes.now) (rate_answer context.now.locals.now) k result }
 {
@@ -261,7 +261,7 @@ pub fn rate_of(context: &Context, k: usize) -> Option<u64>
         return scale_of(context, k);
     }
     let scale = scale_of(context, tree::left_of(cell))?;
-    let x = eval_node(context, k - 1)?;
+    let x = eval_node_lent(context, k - 1)?;
     scaled(scale, x)
 }
 
@@ -272,28 +272,28 @@ pub enum Values {
 }
 
 // What the one or two expressions at k come to.
-pub fn values_of(context: &Context, k: usize) -> Option<Values>
+pub fn values_of_lent(context: &Context, k: usize) -> Option<Values>
     requires { Held (Settled.OneOrTwo context.now.nodes.now (Settled.Expr context.now.nodes.now)) (Every (GoodExpr (length context.now.locals.now))) k }
     ensures { Worth (Settled.OneOrTwo context.now.nodes.now (Settled.Expr context.now.nodes.now)) (values_answer context.now.locals.now) k result }
 {
     let cell = cell_at(context.nodes, k);
     if tree::kind_of(cell) != NodeKind::PAIR {
-        let x = eval_node(context, k)?;
+        let x = eval_node_lent(context, k)?;
         return Some(Values::One(x));
     }
-    let x = eval_node(context, tree::left_of(cell))?;
-    let y = eval_node(context, k - 1)?;
+    let x = eval_node_lent(context, tree::left_of(cell))?;
+    let y = eval_node_lent(context, k - 1)?;
     Some(Values::Two(x, y))
 }
 
 // Whether all arguments at k have values.
-pub fn arguments_known(context: &Context, k: usize) -> bool
+pub fn arguments_known_lent(context: &Context, k: usize) -> bool
     requires { Held (Settled.Arguments context.now.nodes.now) (Every (GoodExpr (length context.now.locals.now))) k }
     ensures { Worth (Settled.Arguments context.now.nodes.now) (all_values context.now.locals.now) k result }
 {
     let cell = cell_at(context.nodes, k);
     if tree::kind_of(cell) != NodeKind::ARGUMENT {
-        return eval_node(context, k).is_some();
+        return eval_node_lent(context, k).is_some();
     }
-    eval_node(context, tree::left_of(cell)).is_some() && arguments_known(context, k - 1)
+    eval_node_lent(context, tree::left_of(cell)).is_some() && arguments_known_lent(context, k - 1)
 }

@@ -48,20 +48,21 @@ pub fn continuation_of(nodes: &[u64], k: usize) -> Option<usize>
 }
 
 // Whether all arguments of the calls at k have values.
-pub fn arguments_given(context: &Context, k: usize) -> bool
+pub fn arguments_given_lent(context: &Context, k: usize) -> bool
     requires { (m : Resolved.Model) × Held (Settled.Parts context.now.nodes.now) (Every (GoodPart m (length context.now.locals.now))) k }
     ensures { Worth (Settled.Parts context.now.nodes.now) (arguments_given context.now.locals.now) k result }
 {
     let cell = crate::cell_at(context.nodes, k);
     let kind = tree::kind_of(cell);
     if kind == NodeKind::GROUP {
-        return arguments_given(context, k - 1);
+        return arguments_given_lent(context, k - 1);
     }
     if kind == NodeKind::ITEM {
-        return arguments_given(context, tree::left_of(cell)) && arguments_given(context, k - 1);
+        return arguments_given_lent(context, tree::left_of(cell))
+            && arguments_given_lent(context, k - 1);
     }
     if kind == NodeKind::CALL_WITH {
-        return crate::arguments_known(context, k - 1);
+        return crate::arguments_known_lent(context, k - 1);
     }
     true
 }
@@ -139,11 +140,11 @@ fn put_arguments(context: &Context, k: usize, values: &mut [i64], at: usize)
 {
     let cell = crate::cell_at(context.nodes, k);
     if tree::kind_of(cell) != NodeKind::ARGUMENT {
-        let z = crate::eval_node(context, k).unwrap_or(0);
+        let z = crate::eval_node_lent(context, k).unwrap_or(0);
         values[at] = z;
         return;
     }
-    let z = crate::eval_node(context, tree::left_of(cell)).unwrap_or(0);
+    let z = crate::eval_node_lent(context, tree::left_of(cell)).unwrap_or(0);
     values[at] = z;
     put_arguments(context, k - 1, values, at + 1);
 }

@@ -118,15 +118,15 @@ fn set_of(context: &Context, k: usize) -> Option<OfferSet>
     let cell = crate::cell_at(context.nodes, k);
     let kind = tree::kind_of(cell);
     if kind < NodeKind::RANGE {
-        let x = crate::eval_node(context, k)?;
+        let x = crate::eval_node_lent(context, k)?;
         return Some(OfferSet::Range(x, x));
     }
     if kind == NodeKind::RANGE {
-        let x = crate::eval_node(context, tree::left_of(cell))?;
-        let y = crate::eval_node(context, k - 1)?;
+        let x = crate::eval_node_lent(context, tree::left_of(cell))?;
+        let y = crate::eval_node_lent(context, k - 1)?;
         return Some(OfferSet::Range(x, y));
     }
-    crate::ends_known(context, k).then_some(OfferSet::Joined(k))
+    crate::ends_known_lent(context, k).then_some(OfferSet::Joined(k))
 }
 
 // The one or two sets at k.
@@ -178,9 +178,9 @@ fn action_offer(context: &Context, k: usize, rate: u64) -> Option<Offer>
     if kind == NodeKind::WAIT {
         return Some(wait_offer(kind, rate));
     }
-    let channel = crate::channel::channel_of(context, tree::left_of(cell))?;
+    let channel = crate::channel::channel_of_lent(context, tree::left_of(cell))?;
     if carries(kind) {
-        let list = listed_values(crate::values_of(context, k - 1)?);
+        let list = listed_values(crate::values_of_lent(context, k - 1)?);
         return Some(Offer {
             kind,
             rate,
@@ -214,12 +214,12 @@ fn prefix_offer(context: &Context, k: usize) -> Option<Offer>
     ensures { Shown.PrefixShown context.now.nodes.now context.now.locals.now k result }
 {
     let cell = crate::cell_at(context.nodes, k);
-    let rate = crate::rate_of(context, rate_root(cell, k))?;
+    let rate = crate::rate_of_lent(context, rate_root(cell, k))?;
     action_offer(context, tree::left_of(cell), rate)
 }
 
 // What the branch at k offers, if its parts have values; nothing behind a false gate.
-pub fn offer_of(context: &Context, k: usize) -> Option<Option<Offer>>
+pub fn offer_of_lent(context: &Context, k: usize) -> Option<Option<Offer>>
     requires { (m : Resolved.Model) × Held (Settled.Branch context.now.nodes.now) (GoodBranch m (length context.now.locals.now)) k }
     ensures { (b : Resolved.Branch) → Settled.Branch context.now.nodes.now b k → Shown.ShowsOffer context.now.nodes.now context.now.locals.now (eval_branch context.now.locals.now b) result }
 {
@@ -228,7 +228,7 @@ pub fn offer_of(context: &Context, k: usize) -> Option<Option<Offer>>
         let offer = prefix_offer(context, k)?;
         return Some(Some(offer));
     }
-    let open = crate::holds(context, tree::left_of(cell))?;
+    let open = crate::holds_lent(context, tree::left_of(cell))?;
     if !open {
         return Some(None);
     }
@@ -237,12 +237,12 @@ pub fn offer_of(context: &Context, k: usize) -> Option<Option<Offer>>
 }
 
 // Whether v is in a set of an offer: in a range by two comparisons, as the definition has them.
-pub fn in_offer_set(context: &Context, set: OfferSet, v: i64) -> bool
+pub fn in_offer_set_lent(context: &Context, set: OfferSet, v: i64) -> bool
     requires { (x : Set) × Shown.ShowsSet context.now.nodes.now context.now.locals.now set x }
     ensures { (x : Set) → Shown.ShowsSet context.now.nodes.now context.now.locals.now set x → result ≡ within x v }
 {
     match set {
         OfferSet::Range(low, high) => low <= v && v <= high,
-        OfferSet::Joined(root) => crate::in_set(context, root, v),
+        OfferSet::Joined(root) => crate::in_set_lent(context, root, v),
     }
 }

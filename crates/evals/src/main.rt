@@ -48,7 +48,7 @@ fn quotient(x: i64, y: i64) -> Option<i64>
         nodes: &nodes,
         locals: &[0],
     };
-    eval::eval_node(&context, 2)
+    eval::eval_node_lent(&context, 2)
 }
 
 // Whether v is in x..y.
@@ -60,7 +60,7 @@ fn in_range(x: i64, y: i64, v: i64) -> bool
         nodes: &nodes,
         locals: &[0],
     };
-    eval::in_set(&context, 2, v)
+    eval::in_set_lent(&context, 2, v)
 }
 
 // Whether v is in x..y\z.
@@ -74,7 +74,7 @@ fn in_rest(x: i64, y: i64, z: i64, v: i64) -> bool
         nodes: &nodes,
         locals: &[0],
     };
-    eval::in_set(&context, 4, v)
+    eval::in_set_lent(&context, 4, v)
 }
 
 // The kind of an offer; 0 of what stands behind a false gate, 1 where a part lacks a value: numbers and no Option, as the line prints them.
@@ -111,7 +111,7 @@ fn gated(i: i64, y: i64) -> u8
         nodes: &nodes,
         locals: &[i, y],
     };
-    kind_shown(offer::offer_of(&context, 10))
+    kind_shown(offer::offer_of_lent(&context, 10))
 }
 
 // A rate of n ten-thousandths.
@@ -123,7 +123,7 @@ fn rate(n: u64) -> Option<u64>
         nodes: &nodes,
         locals: &[0],
     };
-    eval::rate_of(&context, 0)
+    eval::rate_of_lent(&context, 0)
 }
 
 // A line for each: its name and the number, or `none`. As in `values`, but of two types: a crate for both programs would hold this alone.

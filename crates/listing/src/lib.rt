@@ -288,14 +288,14 @@ fn values_match(context: &Context, o: Offer, count: usize, first: i64, second: i
         return false;
     }
     let first_set = OfferSet::of(o.list.first, o.list.first_end);
-    if !eval::offer::in_offer_set(context, first_set, first) {
+    if !eval::offer::in_offer_set_lent(context, first_set, first) {
         return false;
     }
     if count < 2 {
         return true;
     }
     let second_set = OfferSet::of(o.list.second, o.list.second_end);
-    eval::offer::in_offer_set(context, second_set, second)
+    eval::offer::in_offer_set_lent(context, second_set, second)
 }
 
 // A receive or a check that acts, with the context of its sets and the state whose pairs it asks for. That it shows a query is no ghost field: it is said of each

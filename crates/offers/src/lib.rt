@@ -240,7 +240,7 @@ fn collect_branch(
     ensures same { filling.new.rows.ghost_name ≡ filling.old.rows.ghost_name }
     ensures collects { (b : Resolved.Branch) → Settled.Branch context.now.nodes.now b k → Collect.CollectsOne context.now.nodes.now context.now.locals.now place branch filling.old.count filling.old.rows.now filling.new.count filling.new.rows.now (eval_branch context.now.locals.now b) result }
 {
-    let shown = eval::offer::offer_of(context, k).ok_or(Stop::Missing(place, branch))?;
+    let shown = eval::offer::offer_of_lent(context, k).ok_or(Stop::Missing(place, branch))?;
     let Some(o) = shown else {
         return Ok(());
     };

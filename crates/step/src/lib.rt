@@ -244,7 +244,7 @@ fn enter(
         nodes: tables.nodes,
         locals: own,
     };
-    let offer = match eval::offer::offer_of(&context, root) {
+    let offer = match eval::offer::offer_of_lent(&context, root) {
         Some(offer) => offer,
         None => None,
     };
@@ -261,7 +261,7 @@ fn arguments_given(nodes: &[u64], locals: &[i64], next: Option<usize>) -> bool
     match next {
         Some(k) => {
             let context = Context { nodes, locals };
-            eval::next::arguments_given(&context, k)
+            eval::next::arguments_given_lent(&context, k)
         }
         None => true,
     }

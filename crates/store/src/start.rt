@@ -44,7 +44,7 @@ fn whole_at(nodes: &[u64], k: usize) -> i64
     ensures { (z : ℤ) → Settled.Number nodes.now 1 z k → result ≡ z }
 {
     let context = Context { nodes, locals: &[] };
-    eval::eval_node(&context, k).unwrap_or(0)
+    eval::eval_node_lent(&context, k).unwrap_or(0)
 }
 
 // Writes the whole numbers at k from place `at` on. The walk is that of eval's `put_arguments`, which says why they are two, and why values and place are.

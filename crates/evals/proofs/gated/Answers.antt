@@ -3,8 +3,8 @@ use mir.Facts.{to_z-of_z}
 use Rattle.evals.proofs.Tables.{two_in, gated-holds}
 use Rattle.evals.proofs.gated.Goals as goal
 
-pub offer_of-requires : goal.offer_of-requires
-offer_of-requires c =
+pub offer_of_lent-requires : goal.offer_of_lent-requires
+offer_of_lent-requires c =
     rw (c.cell.ensures, c.literal.ensures, c.cell-2.ensures, c.cell-3.ensures, c.cell-4.ensures, c.cell-5.ensures, c.cell-6.ensures, c.cell-7.ensures, c.number_cell.ensures, c.cell-8.ensures, c.cell-9.ensures) gated-holds
 
 pub invariant_of-context : goal.invariant_of-context

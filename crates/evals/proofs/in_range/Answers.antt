@@ -3,8 +3,8 @@ use mir.Facts.{to_z-of_z}
 use Rattle.evals.proofs.Tables.{range-holds, zeros-in}
 use Rattle.evals.proofs.in_range.Goals as goal
 
-pub in_set-requires : goal.in_set-requires
-in_set-requires c =
+pub in_set_lent-requires : goal.in_set_lent-requires
+in_set_lent-requires c =
     rw (c.literal.ensures, c.literal-2.ensures, c.cell.ensures, to_z-of_z c.ranges.x, to_z-of_z c.ranges.y) (range-holds c.args.x c.args.y c.requires.0 c.requires.1)
 
 pub invariant_of-context : goal.invariant_of-context

@@ -2,8 +2,8 @@
 use Rattle.evals.proofs.Tables.{rate-holds, zeros-in}
 use Rattle.evals.proofs.rate.Goals as goal
 
-pub rate_of-requires : goal.rate_of-requires
-rate_of-requires c =
+pub rate_of_lent-requires : goal.rate_of_lent-requires
+rate_of_lent-requires c =
     rw c.number_cell.ensures (rate-holds c.args.n c.requires.0 c.requires.1)
 
 pub invariant_of-context : goal.invariant_of-context

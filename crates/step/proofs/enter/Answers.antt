@@ -27,8 +27,8 @@ invariant_of-context c =
     let d = c.find_branch-found.ensures.0 c.requires.model c.requires.state c.requires.process c.requires.branch c.requires.guard a in
     record { in_range = own-values a _ (own-are a _ d.0 _ c.locals_at-own.ensures) }
 
-pub offer_of-requires : goal.offer_of-requires
-offer_of-requires c =
+pub offer_of_lent-requires : goal.offer_of_lent-requires
+offer_of_lent-requires c =
     let a = c.requires.acts in
     let d = c.find_branch-found.ensures.0 c.requires.model c.requires.state c.requires.process c.requires.branch c.requires.guard a in
     offer-asks a _ (own-are a _ d.0 _ c.locals_at-own.ensures) _ d.1
@@ -51,7 +51,7 @@ returns c =
     λ m s p b g h.
     let d = c.find_branch-found.ensures.0 m s p b g h in
     let e = own-are h _ d.0 _ c.locals_at-own.ensures in
-    let f : c.match-offer_of.offer ≡ option_flatten c.offer_of.result =
-    elim c.match-offer_of.branch [ in-Some w ↦ rw (w.in-Some.is, w.offer-is) refl | in-None w ↦ rw (w.in-None.is, w.offer-is) refl ] in
-    let o : ShowsGuard c.args.tables.nodes.now p.locals g c.match-offer_of.offer = rw f (guard-here h _ c.offer_of.result e (c.offer_of.ensures b d.1)) in
-    entered h c.args.values c.bound_by.result _ _ _ e c.put_locals.ensures (ap values_of c.bound_by.ensures ∙ bound-shown c.args.tables.nodes.now p.locals c.match-offer_of.offer c.args.values g o) o (c.continuation_of-next.ensures b d.1)
+    let f : c.match-offer_of_lent.offer ≡ option_flatten c.offer_of_lent.result =
+    elim c.match-offer_of_lent.branch [ in-Some w ↦ rw (w.in-Some.is, w.offer-is) refl | in-None w ↦ rw (w.in-None.is, w.offer-is) refl ] in
+    let o : ShowsGuard c.args.tables.nodes.now p.locals g c.match-offer_of_lent.offer = rw f (guard-here h _ c.offer_of_lent.result e (c.offer_of_lent.ensures b d.1)) in
+    entered h c.args.values c.bound_by.result _ _ _ e c.put_locals.ensures (ap values_of c.bound_by.ensures ∙ bound-shown c.args.tables.nodes.now p.locals c.match-offer_of_lent.offer c.args.values g o) o (c.continuation_of-next.ensures b d.1)

@@ -28,8 +28,8 @@ returns-then-kind_of-eq-CHANNEL c =
     let e = to_z_pos w64 {n = c.token_of-n.result} (omega (arith, c.token_of-n.ensures)) ∙ ap pos (c.token_of-n.ensures ∙ ap token_of c.cell_at-cell.ensures) in
     λ x h. ap (λ (z : ℤ). Some (Name z)) e ∙ name-is T k c.kind_of.result is L c.if-kind_of-eq-CHANNEL.true x h
 
-pub eval_node-requires : goal.eval_node-requires
-eval_node-requires c =
+pub eval_node_lent-requires : goal.eval_node_lent-requires
+eval_node_lent-requires c =
     let T = c.args.context.now.nodes.now in
     let L = c.args.context.now.locals.now in
     let k = c.args.k in
@@ -44,7 +44,7 @@ returns c =
     let k = c.args.k in
     let is = c.kind_of.ensures ∙ ap kind_of c.cell_at-cell.ensures in
     let d = back c.in_ok-value.value (omega arith) in
-    λ y h. simp d (rw c.in_ok-value.was at (number_is T k c.kind_of.result is c.if-kind_of-eq-CHANNEL.false L c.eval_node.result c.eval_node.ensures y h))
+    λ y h. simp d (rw c.in_ok-value.was at (number_is T k c.kind_of.result is c.if-kind_of-eq-CHANNEL.false L c.eval_node_lent.result c.eval_node_lent.ensures y h))
 
 pub returns-in_err-value : goal.returns-in_err-value
 unfolding valued item_of
@@ -53,4 +53,4 @@ returns-in_err-value c =
     let L = c.args.context.now.locals.now in
     let k = c.args.k in
     let is = c.kind_of.ensures ∙ ap kind_of c.cell_at-cell.ensures in
-    rw c.from_residual.ensures (λ y h. rw c.in_err-value.was at (number_is T k c.kind_of.result is c.if-kind_of-eq-CHANNEL.false L c.eval_node.result c.eval_node.ensures y h))
+    rw c.from_residual.ensures (λ y h. rw c.in_err-value.was at (number_is T k c.kind_of.result is c.if-kind_of-eq-CHANNEL.false L c.eval_node_lent.result c.eval_node_lent.ensures y h))

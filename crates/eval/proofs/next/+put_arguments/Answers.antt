@@ -10,8 +10,8 @@ use Rattle.eval.proofs.Arguments.{last-part, more_parts}
 use Rattle.eval.proofs.Rows.{room-some, room-inside, room-more, last-put, more-put}
 use Rattle.eval.proofs.next.+put_arguments.Goals as goal
 
-pub eval_node-requires : goal.eval_node-requires
-eval_node-requires t c =
+pub eval_node_lent-requires : goal.eval_node_lent-requires
+eval_node_lent-requires t c =
     let s = c in
     let T = s.args.context.now.nodes.now in
     let L = s.args.context.now.locals.now in
@@ -48,11 +48,11 @@ returns-then-kind_of-ne-ARGUMENT t c =
     let k = s.args.k in
     let is = c.kind_of.ensures ∙ ap kind_of c.cell_at-cell.ensures in
     let v = s.args.values.now in
-    let x = c.eval_node.result in
-    rw (back c.unwrap_or-z.result c.unwrap_or-z.type_inv, c.unwrap_or-z.ensures ∙ zeroed c.eval_node.result) (last-put T L k v v s.args.at x (λ e. c.if-kind_of-ne-ARGUMENT.true (is ∙ e)) c.eval_node.ensures)
+    let x = c.eval_node_lent.result in
+    rw (back c.unwrap_or-z.result c.unwrap_or-z.type_inv, c.unwrap_or-z.ensures ∙ zeroed c.eval_node_lent.result) (last-put T L k v v s.args.at x (λ e. c.if-kind_of-ne-ARGUMENT.true (is ∙ e)) c.eval_node_lent.ensures)
 
-pub eval_node-requires-2 : goal.eval_node-requires-2
-eval_node-requires-2 t c =
+pub eval_node_lent-requires-2 : goal.eval_node_lent-requires-2
+eval_node_lent-requires-2 t c =
     let s = c in
     let T = s.args.context.now.nodes.now in
     let L = s.args.context.now.locals.now in
@@ -122,4 +122,4 @@ returns t c =
     let e = c.left_of.ensures ∙ ap left_of c.cell_at-cell.ensures in
     let v = s.args.values.now in
     let d = back c.unwrap_or-z-2.result c.unwrap_or-z-2.type_inv ∙ c.unwrap_or-z-2.ensures ∙ zeroed _ in
-    more-put T L k v _ s.args.at c.eval_node-2.result (sym is ∙ c.if-kind_of-ne-ARGUMENT.false) (rw e at c.eval_node-2.ensures) (rw d at c.put_arguments.ensures)
+    more-put T L k v _ s.args.at c.eval_node_lent-2.result (sym is ∙ c.if-kind_of-ne-ARGUMENT.false) (rw e at c.eval_node_lent-2.ensures) (rw d at c.put_arguments.ensures)

@@ -14,8 +14,8 @@ returns-then-kind-eq-WAIT c =
     let is = c.kind_of-kind.ensures ∙ ap kind_of c.cell_at-cell.ensures in
     rw c.wait_offer.ensures (wait-shown T k c.kind_of-kind.result is L c.args.rate c.if-kind-eq-WAIT.true)
 
-pub channel_of-requires : goal.channel_of-requires
-channel_of-requires c =
+pub channel_of_lent-requires : goal.channel_of_lent-requires
+channel_of_lent-requires c =
     let T = c.args.context.now.nodes.now in
     let L = c.args.context.now.locals.now in
     let k = c.args.k in
@@ -31,7 +31,7 @@ returns-in_err-channel c =
     let k = c.args.k in
     let is = c.kind_of-kind.ensures ∙ ap kind_of c.cell_at-cell.ensures in
     let e = c.left_of.ensures ∙ ap left_of c.cell_at-cell.ensures in
-    rw c.from_residual.ensures (channel-missing T k c.kind_of-kind.result is c.if-kind-eq-WAIT.false L c.args.rate (rw (e, c.in_err-channel.was) at c.channel_of.ensures))
+    rw c.from_residual.ensures (channel-missing T k c.kind_of-kind.result is c.if-kind-eq-WAIT.false L c.args.rate (rw (e, c.in_err-channel.was) at c.channel_of_lent.ensures))
 
 pub overflow_sub-k : goal.overflow_sub-k
 overflow_sub-k c =
@@ -42,8 +42,8 @@ overflow_sub-k c =
     let f = channel-part T k c.kind_of-kind.result is c.if-kind-eq-WAIT.false c.requires.0 (length L) c.requires.1 in
     f.0
 
-pub values_of-requires : goal.values_of-requires
-values_of-requires c =
+pub values_of_lent-requires : goal.values_of_lent-requires
+values_of_lent-requires c =
     let T = c.args.context.now.nodes.now in
     let L = c.args.context.now.locals.now in
     let k = c.args.k in
@@ -52,16 +52,16 @@ values_of-requires c =
     let p = carrier T k c.kind_of-kind.result is h c.requires.0 (length L) c.requires.1 in
     record { part = p.values; at = pair-second p.at; fit = p.fit.values }
 
-pub returns-in_err-values_of : goal.returns-in_err-values_of
+pub returns-in_err-values_of_lent : goal.returns-in_err-values_of_lent
 unfolding listed assembled
-returns-in_err-values_of c =
+returns-in_err-values_of_lent c =
     let T = c.args.context.now.nodes.now in
     let L = c.args.context.now.locals.now in
     let k = c.args.k in
     let is = c.kind_of-kind.ensures ∙ ap kind_of c.cell_at-cell.ensures in
     let e = c.left_of.ensures ∙ ap left_of c.cell_at-cell.ensures in
     let h = sym c.carries.ensures ∙ c.if-carries.true in
-    rw c.from_residual-in_err-values_of.ensures (rw (c.in_ok-channel.was, c.in_err-values_of.was) at (carried-shown T k c.kind_of-kind.result is h L c.args.rate c.channel_of.result c.values_of.result (rw e at c.channel_of.ensures) c.values_of.ensures))
+    rw c.from_residual-in_err-values_of_lent.ensures (rw (c.in_ok-channel.was, c.in_err-values_of_lent.was) at (carried-shown T k c.kind_of-kind.result is h L c.args.rate c.channel_of_lent.result c.values_of_lent.result (rw e at c.channel_of_lent.ensures) c.values_of_lent.ensures))
 
 pub returns-then-carries : goal.returns-then-carries
 unfolding listed assembled
@@ -72,7 +72,7 @@ returns-then-carries c =
     let is = c.kind_of-kind.ensures ∙ ap kind_of c.cell_at-cell.ensures in
     let e = c.left_of.ensures ∙ ap left_of c.cell_at-cell.ensures in
     let h = sym c.carries.ensures ∙ c.if-carries.true in
-    rw c.listed_values-list.ensures (rw (c.in_ok-channel.was, c.in_ok-values_of.was) at (carried-shown T k c.kind_of-kind.result is h L c.args.rate c.channel_of.result c.values_of.result (rw e at c.channel_of.ensures) c.values_of.ensures))
+    rw c.listed_values-list.ensures (rw (c.in_ok-channel.was, c.in_ok-values_of_lent.was) at (carried-shown T k c.kind_of-kind.result is h L c.args.rate c.channel_of_lent.result c.values_of_lent.result (rw e at c.channel_of_lent.ensures) c.values_of_lent.ensures))
 
 pub overflow_sub-k-2 : goal.overflow_sub-k-2
 overflow_sub-k-2 c =
@@ -102,7 +102,7 @@ returns-in_err-list c =
     let is = c.kind_of-kind.ensures ∙ ap kind_of c.cell_at-cell.ensures in
     let e = c.left_of.ensures ∙ ap left_of c.cell_at-cell.ensures in
     let h = sym c.carries.ensures ∙ c.if-carries.false in
-    rw c.from_residual-in_err-list.ensures (rw (c.in_ok-channel.was, c.in_err-list.was) at (sought-shown T k c.kind_of-kind.result is c.if-kind-eq-WAIT.false h L c.args.rate c.channel_of.result c.listed_sets.result (rw e at c.channel_of.ensures) c.listed_sets.ensures))
+    rw c.from_residual-in_err-list.ensures (rw (c.in_ok-channel.was, c.in_err-list.was) at (sought-shown T k c.kind_of-kind.result is c.if-kind-eq-WAIT.false h L c.args.rate c.channel_of_lent.result c.listed_sets.result (rw e at c.channel_of_lent.ensures) c.listed_sets.ensures))
 
 pub returns : goal.returns
 unfolding assembled
@@ -113,4 +113,4 @@ returns c =
     let is = c.kind_of-kind.ensures ∙ ap kind_of c.cell_at-cell.ensures in
     let e = c.left_of.ensures ∙ ap left_of c.cell_at-cell.ensures in
     let h = sym c.carries.ensures ∙ c.if-carries.false in
-    rw (c.in_ok-channel.was, c.in_ok-list.was) at (sought-shown T k c.kind_of-kind.result is c.if-kind-eq-WAIT.false h L c.args.rate c.channel_of.result c.listed_sets.result (rw e at c.channel_of.ensures) c.listed_sets.ensures)
+    rw (c.in_ok-channel.was, c.in_ok-list.was) at (sought-shown T k c.kind_of-kind.result is c.if-kind-eq-WAIT.false h L c.args.rate c.channel_of_lent.result c.listed_sets.result (rw e at c.channel_of_lent.ensures) c.listed_sets.ensures)

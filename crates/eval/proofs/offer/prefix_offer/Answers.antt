@@ -15,8 +15,8 @@ rate_root-requires c =
     let k = s.args.k in
     (own-parts T k (length L) s.requires).above
 
-pub rate_of-requires : goal.rate_of-requires
-rate_of-requires c =
+pub rate_of_lent-requires : goal.rate_of_lent-requires
+rate_of_lent-requires c =
     let s = c in
     let T = s.args.context.now.nodes.now in
     let L = s.args.context.now.locals.now in
@@ -39,7 +39,7 @@ returns-in_err-rate c =
     let L = c.args.context.now.locals.now in
     let k = c.args.k in
     let r = c.rate_root.ensures ∙ ap (λ (x : ℕ). rate_root x k) c.cell_at-cell.ensures in
-    rw c.from_residual.ensures (prefix-missing T k L (rw (r, c.in_err-rate.was) at c.rate_of.ensures))
+    rw c.from_residual.ensures (prefix-missing T k L (rw (r, c.in_err-rate.was) at c.rate_of_lent.ensures))
 
 pub returns : goal.returns
 returns c =
@@ -48,4 +48,4 @@ returns c =
     let k = c.args.k in
     let e = c.left_of.ensures ∙ ap left_of c.cell_at-cell.ensures in
     let r = c.rate_root.ensures ∙ ap (λ (x : ℕ). rate_root x k) c.cell_at-cell.ensures in
-    prefix-is T k L c.in_ok-rate.rate c.action_offer.result (rw (r, c.in_ok-rate.was) at c.rate_of.ensures) (rw e at c.action_offer.ensures)
+    prefix-is T k L c.in_ok-rate.rate c.action_offer.result (rw (r, c.in_ok-rate.was) at c.rate_of_lent.ensures) (rw e at c.action_offer.ensures)

@@ -13,12 +13,12 @@ unfolding Every
 invariant_of-context c =
     record { in_range = tt }
 
-pub eval_node-requires : goal.eval_node-requires
-eval_node-requires c =
+pub eval_node_lent-requires : goal.eval_node_lent-requires
+eval_node_lent-requires c =
     whole-held c.args.nodes.now c.args.k c.requires
 
 pub returns : goal.returns
 returns c =
     λ z n.
-    let e = whole_is c.args.nodes.now c.args.k c.eval_node.result c.eval_node.ensures z n in
+    let e = whole_is c.args.nodes.now c.args.k c.eval_node_lent.result c.eval_node_lent.ensures z n in
     back c.unwrap_or.result c.unwrap_or.type_inv ∙ c.unwrap_or.ensures ∙ ap (λ (r : Option ℤ). unwrap_or r (pos 0)) e

@@ -1,10 +1,10 @@
--- `eval::offer::offer_of` meets its contract: the gate, then the rest. From what the node says.
+-- `eval::offer::offer_of_lent` meets its contract: the gate, then the rest. From what the node says.
 use mathlib.Core.Path.{ap, ◌∙◌}
 use Rattle.state.proofs.Tests.{refused, passed}
 use lib.ListN.{length}
 use Rattle.tree.specs.Node.{kind_of, left_of}
 use Rattle.eval.proofs.Offers.{ungated-prefix, opened, ungated-shown, gated-parts, gate-yes, gate-no, gate-missing}
-use Rattle.eval.proofs.offer.offer_of.Goals as goal
+use Rattle.eval.proofs.offer.offer_of_lent.Goals as goal
 
 pub prefix_offer-requires : goal.prefix_offer-requires
 prefix_offer-requires c =
@@ -33,8 +33,8 @@ returns-then-kind_of-ne-GATE c =
     let is = c.kind_of.ensures ∙ ap kind_of c.cell_at-cell.ensures in
     rw c.in_ok-offer.was at (ungated-shown T k c.kind_of.result is c.if-kind_of-ne-GATE.true L c.prefix_offer.result c.prefix_offer.ensures)
 
-pub holds-requires : goal.holds-requires
-holds-requires c =
+pub holds_lent-requires : goal.holds_lent-requires
+holds_lent-requires c =
     let T = c.args.context.now.nodes.now in
     let L = c.args.context.now.locals.now in
     let k = c.args.k in
@@ -50,7 +50,7 @@ returns-in_err-open c =
     let k = c.args.k in
     let is = c.kind_of.ensures ∙ ap kind_of c.cell_at-cell.ensures in
     let e = c.left_of.ensures ∙ ap left_of c.cell_at-cell.ensures in
-    rw c.from_residual-in_err-open.ensures (gate-missing T k c.kind_of.result is c.if-kind_of-ne-GATE.false L (rw (e, c.in_err-open.was) at c.holds.ensures))
+    rw c.from_residual-in_err-open.ensures (gate-missing T k c.kind_of.result is c.if-kind_of-ne-GATE.false L (rw (e, c.in_err-open.was) at c.holds_lent.ensures))
 
 pub returns-then-not-open : goal.returns-then-not-open
 returns-then-not-open c =
@@ -59,7 +59,7 @@ returns-then-not-open c =
     let k = c.args.k in
     let is = c.kind_of.ensures ∙ ap kind_of c.cell_at-cell.ensures in
     let e = c.left_of.ensures ∙ ap left_of c.cell_at-cell.ensures in
-    gate-no T k c.kind_of.result is c.if-kind_of-ne-GATE.false L (rw (e, c.in_ok-open.was, refused _ c.if-not-open.true-raw) at c.holds.ensures)
+    gate-no T k c.kind_of.result is c.if-kind_of-ne-GATE.false L (rw (e, c.in_ok-open.was, refused _ c.if-not-open.true-raw) at c.holds_lent.ensures)
 
 pub overflow_sub-k : goal.overflow_sub-k
 overflow_sub-k c =
@@ -87,7 +87,7 @@ returns-in_err-offer-2 c =
     let k = c.args.k in
     let is = c.kind_of.ensures ∙ ap kind_of c.cell_at-cell.ensures in
     let e = c.left_of.ensures ∙ ap left_of c.cell_at-cell.ensures in
-    rw c.from_residual-in_err-offer-2.ensures (rw c.in_err-offer-2.was at (gate-yes T k c.kind_of.result is c.if-kind_of-ne-GATE.false L c.prefix_offer-2.result (rw (e, c.in_ok-open.was, passed _ c.if-not-open.false-raw) at c.holds.ensures) c.prefix_offer-2.ensures))
+    rw c.from_residual-in_err-offer-2.ensures (rw c.in_err-offer-2.was at (gate-yes T k c.kind_of.result is c.if-kind_of-ne-GATE.false L c.prefix_offer-2.result (rw (e, c.in_ok-open.was, passed _ c.if-not-open.false-raw) at c.holds_lent.ensures) c.prefix_offer-2.ensures))
 
 pub returns : goal.returns
 unfolding opened
@@ -97,4 +97,4 @@ returns c =
     let k = c.args.k in
     let is = c.kind_of.ensures ∙ ap kind_of c.cell_at-cell.ensures in
     let e = c.left_of.ensures ∙ ap left_of c.cell_at-cell.ensures in
-    rw c.in_ok-offer-2.was at (gate-yes T k c.kind_of.result is c.if-kind_of-ne-GATE.false L c.prefix_offer-2.result (rw (e, c.in_ok-open.was, passed _ c.if-not-open.false-raw) at c.holds.ensures) c.prefix_offer-2.ensures)
+    rw c.in_ok-offer-2.was at (gate-yes T k c.kind_of.result is c.if-kind_of-ne-GATE.false L c.prefix_offer-2.result (rw (e, c.in_ok-open.was, passed _ c.if-not-open.false-raw) at c.holds_lent.ensures) c.prefix_offer-2.ensures)

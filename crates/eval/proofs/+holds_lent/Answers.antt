@@ -8,10 +8,10 @@ use Rattle.machine.specs.Evaluate.{valued}
 use Rattle.eval.specs.Answers.{truth_of}
 use Rattle.tree.specs.Node.{kind_of, left_of}
 use Rattle.eval.proofs.Conds.{compare-parts, compare-is, compare-lacks, cond-parts, skipped-is, rest-is}
-use Rattle.eval.proofs.+holds.Goals as goal
+use Rattle.eval.proofs.+holds_lent.Goals as goal
 
-pub eval_node-requires : goal.eval_node-requires
-eval_node-requires t c =
+pub eval_node_lent-requires : goal.eval_node_lent-requires
+eval_node_lent-requires t c =
     let T = c.args.context.now.nodes.now in
     let L = c.args.context.now.locals.now in
     let k = c.args.k in
@@ -27,7 +27,7 @@ returns-in_err-x t c d h =
     let k = c.args.k in
     let is = c.kind_of-kind.ensures ∙ ap kind_of c.cell_at-cell.ensures in
     let e = c.left_of-i.ensures ∙ ap left_of c.cell_at-cell.ensures in
-    c.from_residual.ensures ∙ compare-lacks T k c.kind_of-kind.result is L c.if-kind-lt-BOTH.true (rw (e, c.in_err-x.was) at c.eval_node.ensures) d h
+    c.from_residual.ensures ∙ compare-lacks T k c.kind_of-kind.result is L c.if-kind-lt-BOTH.true (rw (e, c.in_err-x.was) at c.eval_node_lent.ensures) d h
 
 pub overflow_sub-k : goal.overflow_sub-k
 overflow_sub-k t c =
@@ -38,8 +38,8 @@ overflow_sub-k t c =
     let f = compare-parts T k c.kind_of-kind.result is (length L) c.if-kind-lt-BOTH.true c.requires in
     f.0
 
-pub eval_node-requires-then-kind-lt-BOTH : goal.eval_node-requires-then-kind-lt-BOTH
-eval_node-requires-then-kind-lt-BOTH t c =
+pub eval_node_lent-requires-then-kind-lt-BOTH : goal.eval_node_lent-requires-then-kind-lt-BOTH
+eval_node_lent-requires-then-kind-lt-BOTH t c =
     let T = c.args.context.now.nodes.now in
     let L = c.args.context.now.locals.now in
     let k = c.args.k in
@@ -55,7 +55,7 @@ returns-in_err-y t c =
     let k = c.args.k in
     let is = c.kind_of-kind.ensures ∙ ap kind_of c.cell_at-cell.ensures in
     let e = c.left_of-i.ensures ∙ ap left_of c.cell_at-cell.ensures in
-    compare-is T k c.kind_of-kind.result is L c.eval_node.result c.eval_node-then-kind-lt-BOTH.result _ c.if-kind-lt-BOTH.true (rw e at c.eval_node.ensures) c.eval_node-then-kind-lt-BOTH.ensures
+    compare-is T k c.kind_of-kind.result is L c.eval_node_lent.result c.eval_node_lent-then-kind-lt-BOTH.result _ c.if-kind-lt-BOTH.true (rw e at c.eval_node_lent.ensures) c.eval_node_lent-then-kind-lt-BOTH.ensures
     (λ turned r h. rw (c.in_ok-x.was, c.in_err-y.was) c.from_residual-in_err-y.ensures)
 
 pub returns-then-kind-lt-BOTH : goal.returns-then-kind-lt-BOTH
@@ -68,11 +68,11 @@ returns-then-kind-lt-BOTH t c =
     let e = c.left_of-i.ensures ∙ ap left_of c.cell_at-cell.ensures in
     let g = back c.in_ok-x.x (omega arith) in
     let d = back c.in_ok-y.y (omega arith) in
-    compare-is T k c.kind_of-kind.result is L c.eval_node.result c.eval_node-then-kind-lt-BOTH.result _ c.if-kind-lt-BOTH.true (rw e at c.eval_node.ensures) c.eval_node-then-kind-lt-BOTH.ensures
+    compare-is T k c.kind_of-kind.result is L c.eval_node_lent.result c.eval_node_lent-then-kind-lt-BOTH.result _ c.if-kind-lt-BOTH.true (rw e at c.eval_node_lent.ensures) c.eval_node_lent-then-kind-lt-BOTH.ensures
     (λ turned r h. rw (c.in_ok-x.was, c.in_ok-y.was) (ap (λ (b : Bool). Some b) (simp (g, d) at (c.tested.ensures turned r h))))
 
-pub holds-p-requires : goal.holds-p-requires
-holds-p-requires t c =
+pub holds_lent-p-requires : goal.holds_lent-p-requires
+holds_lent-p-requires t c =
     let s = c in
     let T = s.args.context.now.nodes.now in
     let L = s.args.context.now.locals.now in
@@ -90,7 +90,7 @@ returns-then-decided t c =
     let k = s.args.k in
     let is = c.kind_of-kind.ensures ∙ ap kind_of c.cell_at-cell.ensures in
     let e = c.left_of-i.ensures ∙ ap left_of c.cell_at-cell.ensures in
-    skipped-is T k c.kind_of-kind.result is c.if-kind-lt-BOTH.false L c.holds-p.result (rw e at c.holds-p.ensures) (sym c.decided.ensures ∙ c.if-decided.true)
+    skipped-is T k c.kind_of-kind.result is c.if-kind-lt-BOTH.false L c.holds_lent-p.result (rw e at c.holds_lent-p.ensures) (sym c.decided.ensures ∙ c.if-decided.true)
 
 pub overflow_sub-k-2 : goal.overflow_sub-k-2
 overflow_sub-k-2 t c =
@@ -102,8 +102,8 @@ overflow_sub-k-2 t c =
     let f = cond-parts T k c.kind_of-kind.result is c.if-kind-lt-BOTH.false (length L) s.requires in
     f.0
 
-pub holds-requires : goal.holds-requires
-holds-requires t c =
+pub holds_lent-requires : goal.holds_lent-requires
+holds_lent-requires t c =
     let s = c in
     let T = s.args.context.now.nodes.now in
     let L = s.args.context.now.locals.now in
@@ -120,4 +120,4 @@ returns t c =
     let k = s.args.k in
     let is = c.kind_of-kind.ensures ∙ ap kind_of c.cell_at-cell.ensures in
     let e = c.left_of-i.ensures ∙ ap left_of c.cell_at-cell.ensures in
-    rest-is T k c.kind_of-kind.result is c.if-kind-lt-BOTH.false L c.holds-p.result c.holds.result (rw e at c.holds-p.ensures) (sym c.decided.ensures ∙ c.if-decided.false) c.holds.ensures
+    rest-is T k c.kind_of-kind.result is c.if-kind-lt-BOTH.false L c.holds_lent-p.result c.holds_lent.result (rw e at c.holds_lent-p.ensures) (sym c.decided.ensures ∙ c.if-decided.false) c.holds_lent.ensures

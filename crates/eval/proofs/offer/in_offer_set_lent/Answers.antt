@@ -1,19 +1,19 @@
--- `eval::offer::in_offer_set` meets its contract: both ends, or the set at its root. From what the set shows.
+-- `eval::offer::in_offer_set_lent` meets its contract: both ends, or the set at its root. From what the set shows.
 use mir.Facts.{to_z-of_z}
 use native.Mathlib.Omega.{arith}
 use Rattle.value.proofs.Kit.{back}
 use Rattle.rules.specs.Offers.{within}
 use Rattle.eval.proofs.Ends.{rooted-at, ranged-tells}
-use Rattle.eval.proofs.offer.in_offer_set.Goals as goal
+use Rattle.eval.proofs.offer.in_offer_set_lent.Goals as goal
 
-pub in_set-requires : goal.in_set-requires
-in_set-requires c =
+pub in_set_lent-requires : goal.in_set_lent-requires
+in_set_lent-requires c =
     (rooted-at c.args.context.now.nodes.now c.args.context.now.locals.now c.in-Joined.root c.in-Joined.is c.requires.1).held
 
 pub returns-in-Joined : goal.returns-in-Joined
 returns-in-Joined c x h =
     let m = rooted-at c.args.context.now.nodes.now c.args.context.now.locals.now c.in-Joined.root c.in-Joined.is h in
-    simp (to_z-of_z c.ranges.v) at c.in_set.ensures m.set x m.at m.worth
+    simp (to_z-of_z c.ranges.v) at c.in_set_lent.ensures m.set x m.at m.worth
 
 pub returns-then-low-v : goal.returns-then-low-v
 unfolding within

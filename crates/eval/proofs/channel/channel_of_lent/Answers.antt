@@ -6,7 +6,7 @@ use native.Mathlib.Omega.{arith}
 use lib.ListN.{length}
 use Rattle.tree.specs.Node.{kind_of, left_of, third_of}
 use Rattle.eval.proofs.Channels.{one-part, one-is, first_part, first_lacks, two-part, two_is, three-parts, three-is, second_lacks}
-use Rattle.eval.proofs.channel.channel_of.Goals as goal
+use Rattle.eval.proofs.channel.channel_of_lent.Goals as goal
 
 pub item_of-requires : goal.item_of-requires
 item_of-requires c =

@@ -1,4 +1,4 @@
--- `eval::rate_of` meets its contract: a scale, or a scale times an atom. From what the node says.
+-- `eval::rate_of_lent` meets its contract: a scale, or a scale times an atom. From what the node says.
 use mathlib.Core.Path.{sym, ap, ◌∙◌}
 use native.Mathlib.Omega.{arith}
 use Rattle.value.proofs.Kit.{back}
@@ -7,7 +7,7 @@ use Rattle.eval.specs.Rates.{rate_of}
 use lib.ListN.{length}
 use Rattle.tree.specs.Node.{kind_of, left_of}
 use Rattle.eval.proofs.Rates.{rate-some, plain-rate, atom-part, scaled-rate, scale-lacks}
-use Rattle.eval.proofs.rate_of.Goals as goal
+use Rattle.eval.proofs.rate_of_lent.Goals as goal
 
 pub returns-then-kind_of-ne-SCALED : goal.returns-then-kind_of-ne-SCALED
 returns-then-kind_of-ne-SCALED c =
@@ -36,8 +36,8 @@ overflow_sub-k c =
     let is = c.kind_of.ensures ∙ ap kind_of c.cell_at-cell.ensures in
     (atom-part T k c.kind_of.result is c.if-kind_of-ne-SCALED.false (length L) s.requires).0
 
-pub eval_node-requires : goal.eval_node-requires
-eval_node-requires c =
+pub eval_node_lent-requires : goal.eval_node_lent-requires
+eval_node_lent-requires c =
     let T = c.args.context.now.nodes.now in
     let L = c.args.context.now.locals.now in
     let k = c.args.k in
@@ -52,7 +52,7 @@ returns-in_err-x c =
     let k = c.args.k in
     let is = c.kind_of.ensures ∙ ap kind_of c.cell_at-cell.ensures in
     let e = c.left_of.ensures ∙ ap left_of c.cell_at-cell.ensures in
-    scaled-rate T k c.kind_of.result is c.if-kind_of-ne-SCALED.false L c.scale_of-2.result c.eval_node.result _ (rw e at c.scale_of-2.ensures) c.eval_node.ensures
+    scaled-rate T k c.kind_of.result is c.if-kind_of-ne-SCALED.false L c.scale_of-2.result c.eval_node_lent.result _ (rw e at c.scale_of-2.ensures) c.eval_node_lent.ensures
     (λ o h. rw (rate-some o c.in_ok-scale.scale (sym c.in_ok-scale.was ∙ h), c.in_err-x.was) c.from_residual-in_err-x.ensures)
 
 pub returns : goal.returns
@@ -64,5 +64,5 @@ returns c =
     let is = c.kind_of.ensures ∙ ap kind_of c.cell_at-cell.ensures in
     let e = c.left_of.ensures ∙ ap left_of c.cell_at-cell.ensures in
     let d = back c.in_ok-x.x (omega arith) in
-    scaled-rate T k c.kind_of.result is c.if-kind_of-ne-SCALED.false L c.scale_of-2.result c.eval_node.result _ (rw e at c.scale_of-2.ensures) c.eval_node.ensures
+    scaled-rate T k c.kind_of.result is c.if-kind_of-ne-SCALED.false L c.scale_of-2.result c.eval_node_lent.result _ (rw e at c.scale_of-2.ensures) c.eval_node_lent.ensures
     (λ o h. rw (rate-some o c.in_ok-scale.scale (sym c.in_ok-scale.was ∙ h), c.in_ok-x.was) (simp d at c.scaled.ensures))

@@ -1,4 +1,4 @@
--- `eval::values_of` meets its contract: one expression, or two. From what the node says.
+-- `eval::values_of_lent` meets its contract: one expression, or two. From what the node says.
 use mathlib.Core.Path.{ap, ◌∙◌}
 use native.Mathlib.Omega.{arith}
 use Rattle.value.proofs.Kit.{back}
@@ -9,10 +9,10 @@ use Rattle.tree.specs.Node.{kind_of, left_of}
 use Rattle.tables.specs.Settled.{Expr}
 use Rattle.model.specs.Good.{GoodExpr}
 use Rattle.eval.proofs.Lists.{one-part, two-parts, expr-low, one-value-is, two-values-are, two-values-lack}
-use Rattle.eval.proofs.values_of.Goals as goal
+use Rattle.eval.proofs.values_of_lent.Goals as goal
 
-pub eval_node-requires : goal.eval_node-requires
-eval_node-requires c =
+pub eval_node_lent-requires : goal.eval_node_lent-requires
+eval_node_lent-requires c =
     let s = c in
     let T = s.args.context.now.nodes.now in
     let L = s.args.context.now.locals.now in
@@ -27,7 +27,7 @@ returns-in_err-x c x h =
     let L = c.args.context.now.locals.now in
     let k = c.args.k in
     let is = c.kind_of.ensures ∙ ap kind_of c.cell_at-cell.ensures in
-    c.from_residual.ensures ∙ (rw c.in_err-x.was at (one-value-is T k c.kind_of.result is L c.eval_node.result c.if-kind_of-ne-PAIR.true c.eval_node.ensures x h))
+    c.from_residual.ensures ∙ (rw c.in_err-x.was at (one-value-is T k c.kind_of.result is L c.eval_node_lent.result c.if-kind_of-ne-PAIR.true c.eval_node_lent.ensures x h))
 
 pub returns-then-kind_of-ne-PAIR : goal.returns-then-kind_of-ne-PAIR
 unfolding values_given values_of eval_all valued given
@@ -37,10 +37,10 @@ returns-then-kind_of-ne-PAIR c x h =
     let k = c.args.k in
     let is = c.kind_of.ensures ∙ ap kind_of c.cell_at-cell.ensures in
     let d = back c.in_ok-x.x (omega arith) in
-    rw d (rw c.in_ok-x.was at (one-value-is T k c.kind_of.result is L c.eval_node.result c.if-kind_of-ne-PAIR.true c.eval_node.ensures x h))
+    rw d (rw c.in_ok-x.was at (one-value-is T k c.kind_of.result is L c.eval_node_lent.result c.if-kind_of-ne-PAIR.true c.eval_node_lent.ensures x h))
 
-pub eval_node-requires-2 : goal.eval_node-requires-2
-eval_node-requires-2 c =
+pub eval_node_lent-requires-2 : goal.eval_node_lent-requires-2
+eval_node_lent-requires-2 c =
     let T = c.args.context.now.nodes.now in
     let L = c.args.context.now.locals.now in
     let k = c.args.k in
@@ -56,7 +56,7 @@ returns-in_err-x-2 c x h =
     let k = c.args.k in
     let is = c.kind_of.ensures ∙ ap kind_of c.cell_at-cell.ensures in
     let e = c.left_of.ensures ∙ ap left_of c.cell_at-cell.ensures in
-    c.from_residual-in_err-x-2.ensures ∙ two-values-lack T k c.kind_of.result is L c.if-kind_of-ne-PAIR.false (rw (e, c.in_err-x-2.was) at c.eval_node-2.ensures) x h
+    c.from_residual-in_err-x-2.ensures ∙ two-values-lack T k c.kind_of.result is L c.if-kind_of-ne-PAIR.false (rw (e, c.in_err-x-2.was) at c.eval_node_lent-2.ensures) x h
 
 pub overflow_sub-k : goal.overflow_sub-k
 overflow_sub-k c =
@@ -67,8 +67,8 @@ overflow_sub-k c =
     let f = two-parts T k c.kind_of.result is (Expr T) (GoodExpr (length L)) (expr-low T k c.kind_of.result is) c.if-kind_of-ne-PAIR.false c.requires in
     f.0
 
-pub eval_node-requires-3 : goal.eval_node-requires-3
-eval_node-requires-3 c =
+pub eval_node_lent-requires-3 : goal.eval_node_lent-requires-3
+eval_node_lent-requires-3 c =
     let T = c.args.context.now.nodes.now in
     let L = c.args.context.now.locals.now in
     let k = c.args.k in
@@ -84,7 +84,7 @@ returns-in_err-y c x h =
     let k = c.args.k in
     let is = c.kind_of.ensures ∙ ap kind_of c.cell_at-cell.ensures in
     let e = c.left_of.ensures ∙ ap left_of c.cell_at-cell.ensures in
-    c.from_residual-in_err-y.ensures ∙ (rw (c.in_ok-x-2.was, c.in_err-y.was) at (two-values-are T k c.kind_of.result is L c.eval_node-2.result c.eval_node-3.result c.if-kind_of-ne-PAIR.false (rw e at c.eval_node-2.ensures) c.eval_node-3.ensures x h))
+    c.from_residual-in_err-y.ensures ∙ (rw (c.in_ok-x-2.was, c.in_err-y.was) at (two-values-are T k c.kind_of.result is L c.eval_node_lent-2.result c.eval_node_lent-3.result c.if-kind_of-ne-PAIR.false (rw e at c.eval_node_lent-2.ensures) c.eval_node_lent-3.ensures x h))
 
 pub returns : goal.returns
 unfolding values_given values_of eval_all valued given
@@ -96,4 +96,4 @@ returns c x h =
     let e = c.left_of.ensures ∙ ap left_of c.cell_at-cell.ensures in
     let d = back c.in_ok-x-2.x (omega arith) in
     let g = back c.in_ok-y.y (omega arith) in
-    rw (d, g) (rw (c.in_ok-x-2.was, c.in_ok-y.was) at (two-values-are T k c.kind_of.result is L c.eval_node-2.result c.eval_node-3.result c.if-kind_of-ne-PAIR.false (rw e at c.eval_node-2.ensures) c.eval_node-3.ensures x h))
+    rw (d, g) (rw (c.in_ok-x-2.was, c.in_ok-y.was) at (two-values-are T k c.kind_of.result is L c.eval_node_lent-2.result c.eval_node_lent-3.result c.if-kind_of-ne-PAIR.false (rw e at c.eval_node_lent-2.ensures) c.eval_node_lent-3.ensures x h))

@@ -3,7 +3,7 @@ use native.Mathlib.Omega.{arith}
 use lib.ListN.{length}
 use Rattle.tree.specs.Node.{kind_of, left_of}
 use Rattle.eval.proofs.Continuations.{group-held, group-given, item-held, items-given, first-ungiven, call-held, call-given, others-given}
-use Rattle.eval.proofs.next.+arguments_given.Goals as goal
+use Rattle.eval.proofs.next.+arguments_given_lent.Goals as goal
 
 pub overflow_sub-k : goal.overflow_sub-k
 overflow_sub-k t c =
@@ -14,8 +14,8 @@ overflow_sub-k t c =
     let is = c.kind_of-kind.ensures ∙ ap kind_of c.cell_at-cell.ensures in
     (group-held T k c.kind_of-kind.result is c.if-kind-eq-GROUP.true s.requires.0 (length L) s.requires.1).0
 
-pub arguments_given-requires : goal.arguments_given-requires
-arguments_given-requires t c =
+pub arguments_given_lent-requires : goal.arguments_given_lent-requires
+arguments_given_lent-requires t c =
     let s = c in
     let T = s.args.context.now.nodes.now in
     let L = s.args.context.now.locals.now in
@@ -31,10 +31,10 @@ returns-then-kind-eq-GROUP t c =
     let L = s.args.context.now.locals.now in
     let k = s.args.k in
     let is = c.kind_of-kind.ensures ∙ ap kind_of c.cell_at-cell.ensures in
-    group-given T k c.kind_of-kind.result is c.if-kind-eq-GROUP.true L c.arguments_given.result c.arguments_given.ensures
+    group-given T k c.kind_of-kind.result is c.if-kind-eq-GROUP.true L c.arguments_given_lent.result c.arguments_given_lent.ensures
 
-pub arguments_given-requires-then-kind-eq-ITEM : goal.arguments_given-requires-then-kind-eq-ITEM
-arguments_given-requires-then-kind-eq-ITEM t c =
+pub arguments_given_lent-requires-then-kind-eq-ITEM : goal.arguments_given_lent-requires-then-kind-eq-ITEM
+arguments_given_lent-requires-then-kind-eq-ITEM t c =
     let s = c in
     let T = s.args.context.now.nodes.now in
     let L = s.args.context.now.locals.now in
@@ -44,8 +44,8 @@ arguments_given-requires-then-kind-eq-ITEM t c =
     let f = item-held T k c.kind_of-kind.result is c.if-kind-eq-ITEM.true s.requires.0 (length L) s.requires.1 in
     (rw (e, ← s.decreases) f.1, (s.requires.0, rw e f.2))
 
-pub overflow_sub-k-then-arguments_given : goal.overflow_sub-k-then-arguments_given
-overflow_sub-k-then-arguments_given t c =
+pub overflow_sub-k-then-arguments_given_lent : goal.overflow_sub-k-then-arguments_given_lent
+overflow_sub-k-then-arguments_given_lent t c =
     let s = c in
     let T = s.args.context.now.nodes.now in
     let L = s.args.context.now.locals.now in
@@ -53,8 +53,8 @@ overflow_sub-k-then-arguments_given t c =
     let is = c.kind_of-kind.ensures ∙ ap kind_of c.cell_at-cell.ensures in
     (item-held T k c.kind_of-kind.result is c.if-kind-eq-ITEM.true s.requires.0 (length L) s.requires.1).0
 
-pub arguments_given-requires-then-arguments_given : goal.arguments_given-requires-then-arguments_given
-arguments_given-requires-then-arguments_given t c =
+pub arguments_given_lent-requires-then-arguments_given_lent : goal.arguments_given_lent-requires-then-arguments_given_lent
+arguments_given_lent-requires-then-arguments_given_lent t c =
     let s = c in
     let T = s.args.context.now.nodes.now in
     let L = s.args.context.now.locals.now in
@@ -63,25 +63,25 @@ arguments_given-requires-then-arguments_given t c =
     let f = item-held T k c.kind_of-kind.result is c.if-kind-eq-ITEM.true s.requires.0 (length L) s.requires.1 in
     (omega (arith, s.decreases, f.0), (s.requires.0, f.3))
 
-pub returns-then-arguments_given : goal.returns-then-arguments_given
-returns-then-arguments_given t c =
+pub returns-then-arguments_given_lent : goal.returns-then-arguments_given_lent
+returns-then-arguments_given_lent t c =
     let s = c in
     let T = s.args.context.now.nodes.now in
     let L = s.args.context.now.locals.now in
     let k = s.args.k in
     let is = c.kind_of-kind.ensures ∙ ap kind_of c.cell_at-cell.ensures in
     let e = c.left_of.ensures ∙ ap left_of c.cell_at-cell.ensures in
-    items-given T k c.kind_of-kind.result is c.if-kind-eq-ITEM.true L c.arguments_given-then-arguments_given.result (rw (e, c.if-arguments_given.true) at c.arguments_given-then-kind-eq-ITEM.ensures) c.arguments_given-then-arguments_given.ensures
+    items-given T k c.kind_of-kind.result is c.if-kind-eq-ITEM.true L c.arguments_given_lent-then-arguments_given_lent.result (rw (e, c.if-arguments_given_lent.true) at c.arguments_given_lent-then-kind-eq-ITEM.ensures) c.arguments_given_lent-then-arguments_given_lent.ensures
 
-pub returns-else-arguments_given : goal.returns-else-arguments_given
-returns-else-arguments_given t c =
+pub returns-else-arguments_given_lent : goal.returns-else-arguments_given_lent
+returns-else-arguments_given_lent t c =
     let s = c in
     let T = s.args.context.now.nodes.now in
     let L = s.args.context.now.locals.now in
     let k = s.args.k in
     let is = c.kind_of-kind.ensures ∙ ap kind_of c.cell_at-cell.ensures in
     let e = c.left_of.ensures ∙ ap left_of c.cell_at-cell.ensures in
-    rw c.if-arguments_given.false (first-ungiven T k c.kind_of-kind.result is c.if-kind-eq-ITEM.true L (rw (e, c.if-arguments_given.false) at c.arguments_given-then-kind-eq-ITEM.ensures))
+    rw c.if-arguments_given_lent.false (first-ungiven T k c.kind_of-kind.result is c.if-kind-eq-ITEM.true L (rw (e, c.if-arguments_given_lent.false) at c.arguments_given_lent-then-kind-eq-ITEM.ensures))
 
 pub overflow_sub-k-then-kind-eq-CALL_WITH : goal.overflow_sub-k-then-kind-eq-CALL_WITH
 overflow_sub-k-then-kind-eq-CALL_WITH t c =
@@ -92,8 +92,8 @@ overflow_sub-k-then-kind-eq-CALL_WITH t c =
     let is = c.kind_of-kind.ensures ∙ ap kind_of c.cell_at-cell.ensures in
     (call-held T k c.kind_of-kind.result is c.if-kind-eq-CALL_WITH.true s.requires.0 (length L) s.requires.1).0
 
-pub arguments_known-requires : goal.arguments_known-requires
-arguments_known-requires t c =
+pub arguments_known_lent-requires : goal.arguments_known_lent-requires
+arguments_known_lent-requires t c =
     let s = c in
     let T = s.args.context.now.nodes.now in
     let L = s.args.context.now.locals.now in
@@ -109,7 +109,7 @@ returns-then-kind-eq-CALL_WITH t c =
     let L = s.args.context.now.locals.now in
     let k = s.args.k in
     let is = c.kind_of-kind.ensures ∙ ap kind_of c.cell_at-cell.ensures in
-    call-given T k c.kind_of-kind.result is c.if-kind-eq-CALL_WITH.true L c.arguments_known.result c.arguments_known.ensures
+    call-given T k c.kind_of-kind.result is c.if-kind-eq-CALL_WITH.true L c.arguments_known_lent.result c.arguments_known_lent.ensures
 
 pub returns : goal.returns
 returns t c =

@@ -122,3 +122,11 @@ pub fn channel_of_lent(context: &Context, k: usize) -> Option<Channel>
         third: c.value(),
     })
 }
+
+// The same of a context by value.
+pub fn channel_of(context: Context, k: usize) -> Option<Channel>
+    requires { (m : Resolved.Model) × Held (Settled.Channel context.nodes.now) (GoodName m (length context.locals.now)) k }
+    ensures { Worth (Settled.Channel context.entry.nodes.now) (channel_answer context.entry.locals.now) k result }
+{
+    channel_of_lent(&context, k)
+}

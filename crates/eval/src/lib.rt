@@ -93,6 +93,14 @@ pub fn eval_node_lent(context: &Context, k: usize) -> Option<i64>
     apply(kind, x, y)
 }
 
+// The same of a context by value.
+pub fn eval_node(context: Context, k: usize) -> Option<i64>
+    requires { Held (Settled.Expr context.nodes.now) (GoodExpr (length context.locals.now)) k }
+    ensures { Worth (Settled.Expr context.entry.nodes.now) (eval_expr context.entry.locals.now) k result }
+{
+    eval_node_lent(&context, k)
+}
+
 // Whether the left set alone tells that something is in both or not.
 fn settled(kind: u8, p: bool) -> bool
     ensures { result ≡ settles kind p }
@@ -133,6 +141,14 @@ pub fn in_set_lent(context: &Context, k: usize, v: i64) -> bool
     q
 }
 
+// The same of a context by value.
+pub fn in_set(context: Context, k: usize, v: i64) -> bool
+    requires { Held (Settled.Set context.nodes.now) (GoodSet (length context.locals.now)) k }
+    ensures { Tells context.entry.nodes.now context.entry.locals.now v k result }
+{
+    in_set_lent(&context, k, v)
+}
+
 // Whether all ends of the set at k have values.
 pub fn ends_known_lent(context: &Context, k: usize) -> bool
     requires { Held (Settled.Set context.now.nodes.now) (GoodSet (length context.now.locals.now)) k }
@@ -148,6 +164,14 @@ pub fn ends_known_lent(context: &Context, k: usize) -> bool
         return eval_node_lent(context, i).is_some() && eval_node_lent(context, k - 1).is_some();
     }
     ends_known_lent(context, i) && ends_known_lent(context, k - 1)
+}
+
+// The same of a context by value.
+pub fn ends_known(context: Context, k: usize) -> bool
+    requires { Held (Settled.Set context.nodes.now) (GoodSet (length context.locals.now)) k }
+    ensures { Worth (Settled.Set context.entry.nodes.now) (ends_known context.entry.locals.now) k result }
+{
+    ends_known_lent(&context, k)
 }
 
 // One relation on two values.
@@ -203,6 +227,14 @@ pub fn holds_lent(context: &Context, k: usize) -> Option<bool>
         return p;
     }
     holds_lent(context, k - 1)
+}
+
+// The same of a context by value.
+pub fn holds(context: Context, k: usize) -> Option<bool>
+    requires { Held (Settled.Cond context.nodes.now) (GoodCond (length context.locals.now)) k }
+    ensures { Worth (Settled.Cond context.entry.nodes.now) (truth context.entry.locals.now) k result }
+{
+    holds_lent(&context, k)
 }
 
 #[derive(Clone, Copy)]
@@ -265,6 +297,14 @@ pub fn rate_of_lent(context: &Context, k: usize) -> Option<u64>
     scaled(scale, x)
 }
 
+// The same of a context by value.
+pub fn rate_of(context: Context, k: usize) -> Option<u64>
+    requires { Held (Settled.Rate context.nodes.now) (GoodRate (length context.locals.now)) k }
+    ensures { Worth (Settled.Rate context.entry.nodes.now) (rate_answer context.entry.locals.now) k result }
+{
+    rate_of_lent(&context, k)
+}
+
 #[derive(Clone, Copy)]
 pub enum Values {
     One(i64),
@@ -286,6 +326,14 @@ pub fn values_of_lent(context: &Context, k: usize) -> Option<Values>
     Some(Values::Two(x, y))
 }
 
+// The same of a context by value.
+pub fn values_of(context: Context, k: usize) -> Option<Values>
+    requires { Held (Settled.OneOrTwo context.nodes.now (Settled.Expr context.nodes.now)) (Every (GoodExpr (length context.locals.now))) k }
+    ensures { Worth (Settled.OneOrTwo context.entry.nodes.now (Settled.Expr context.entry.nodes.now)) (values_answer context.entry.locals.now) k result }
+{
+    values_of_lent(&context, k)
+}
+
 // Whether all arguments at k have values.
 pub fn arguments_known_lent(context: &Context, k: usize) -> bool
     requires { Held (Settled.Arguments context.now.nodes.now) (Every (GoodExpr (length context.now.locals.now))) k }
@@ -296,4 +344,12 @@ pub fn arguments_known_lent(context: &Context, k: usize) -> bool
         return eval_node_lent(context, k).is_some();
     }
     eval_node_lent(context, tree::left_of(cell)).is_some() && arguments_known_lent(context, k - 1)
+}
+
+// The same of a context by value.
+pub fn arguments_known(context: Context, k: usize) -> bool
+    requires { Held (Settled.Arguments context.nodes.now) (Every (GoodExpr (length context.locals.now))) k }
+    ensures { Worth (Settled.Arguments context.entry.nodes.now) (all_values context.entry.locals.now) k result }
+{
+    arguments_known_lent(&context, k)
 }

@@ -67,6 +67,14 @@ pub fn arguments_given_lent(context: &Context, k: usize) -> bool
     true
 }
 
+// The same of a context by value.
+pub fn arguments_given(context: Context, k: usize) -> bool
+    requires { (m : Resolved.Model) × Held (Settled.Parts context.nodes.now) (Every (GoodPart m (length context.locals.now))) k }
+    ensures { Worth (Settled.Parts context.entry.nodes.now) (arguments_given context.entry.locals.now) k result }
+{
+    arguments_given_lent(&context, k)
+}
+
 // The root of the sums of definition d.
 pub fn body_of(tables: Tables, d: usize) -> usize
     requires { 1 ≤ left_of (get_or tables.nodes.now (tables.root - tables.variables - d) 0) }

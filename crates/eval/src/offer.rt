@@ -236,6 +236,14 @@ pub fn offer_of_lent(context: &Context, k: usize) -> Option<Option<Offer>>
     Some(Some(offer))
 }
 
+// The same of a context by value.
+pub fn offer_of(context: Context, k: usize) -> Option<Option<Offer>>
+    requires { (m : Resolved.Model) × Held (Settled.Branch context.nodes.now) (GoodBranch m (length context.locals.now)) k }
+    ensures { (b : Resolved.Branch) → Settled.Branch context.entry.nodes.now b k → Shown.ShowsOffer context.entry.nodes.now context.entry.locals.now (eval_branch context.entry.locals.now b) result }
+{
+    offer_of_lent(&context, k)
+}
+
 // Whether v is in a set of an offer: in a range by two comparisons, as the definition has them.
 pub fn in_offer_set_lent(context: &Context, set: OfferSet, v: i64) -> bool
     requires { (x : Set) × Shown.ShowsSet context.now.nodes.now context.now.locals.now set x }
@@ -245,4 +253,12 @@ pub fn in_offer_set_lent(context: &Context, set: OfferSet, v: i64) -> bool
         OfferSet::Range(low, high) => low <= v && v <= high,
         OfferSet::Joined(root) => crate::in_set_lent(context, root, v),
     }
+}
+
+// The same of a context by value.
+pub fn in_offer_set(context: Context, set: OfferSet, v: i64) -> bool
+    requires { (x : Set) × Shown.ShowsSet context.nodes.now context.locals.now set x }
+    ensures { (x : Set) → Shown.ShowsSet context.entry.nodes.now context.entry.locals.now set x → result ≡ within x v }
+{
+    in_offer_set_lent(&context, set, v)
 }

@@ -1,6 +1,6 @@
 -- The tables of the specimens hold what the program says of them. By computation, node by node.
 use mathlib.Core.Path.{◌≡◌, refl}
-use mathlib.Core.List.{[], ◌∷◌}
+use mathlib.Core.List.{List, [], ◌∷◌}
 use mathlib.Core.Bool.{false, true}
 use mathlib.Core.Option.{some}
 use Prim.Native.Nat.{ℕ, ◌+◌, ◌-◌, ◌*◌, ◌≤◌, ◌<◌}
@@ -10,15 +10,15 @@ use lib.Dec.{lit<, lit≤}
 use lib.IntN.{ℤ, pos, negsuc, nat_abs}
 use lib.Signed.{lt_z}
 use Rattle.value.specs.Range.{InRange}
-use Rattle.value.specs.Items.{one_item}
+use Rattle.value.specs.Items.{one_item, three_items}
 use Rattle.value.proofs.Bounds.{in_size}
 use Rattle.grammar.specs.Grammar.{greater}
 use Rattle.grammar.specs.Syntax.{divide, without}
-use Rattle.tree.specs.Node.{cell, kind_of, token_of, left_of, op_kind, join_kind, test_kind, relation_kind}
+use Rattle.tree.specs.Node.{cell, kind_of, token_of, left_of, third_of, op_kind, join_kind, test_kind, relation_kind}
 use Rattle.model.specs.Resolved
 use Rattle.tables.specs.Settled as Settled
 use Rattle.tables.specs.Settled.{offset, lifted, number_cell}
-use Rattle.model.specs.Good.{Every, GoodExpr, GoodSet, GoodCond, GoodGate, GoodName, GoodItem, GoodScale, GoodRate, GoodAction, GoodBranch, scale_limit}
+use Rattle.model.specs.Good.{Every, GoodExpr, GoodSet, GoodCond, GoodGate, GoodName, GoodItem, GoodScale, GoodRate, GoodAction, GoodPart, GoodBranch, scale_limit}
 use Rattle.eval.specs.Held.{Held}
 
 -- ---- numbers
@@ -73,27 +73,30 @@ module _ (x y : ℤ) (a : InRange x) (b : InRange y) where
     fit = (a, b);
   }
 
-  pub rest-holds : (z : ℤ) → InRange z → Held (Settled.Set (number_cell 1 x ∷ number_cell 1 y ∷ cell 11 0 0 0 ∷ number_cell 1 z ∷ cell 12 0 2 0 ∷ [])) (GoodSet 1) 4
-  unfolding Settled.Set Settled.Expr GoodSet GoodExpr join_kind cell kind_of left_of
-  rest-holds z c = record {
-    part = Resolved.joined without (Resolved.range (Resolved.constant x) (Resolved.constant y)) (Resolved.single (Resolved.constant z));
-    at = record {
-      right = 3;
+  abbrev pub rest : ℤ → Resolved.Set
+  rest z = Resolved.joined without (Resolved.range (Resolved.constant x) (Resolved.constant y)) (Resolved.single (Resolved.constant z))
+
+  pub rest-at : (z : ℤ) → InRange z → Settled.Set (number_cell 1 x ∷ number_cell 1 y ∷ cell 11 0 0 0 ∷ number_cell 1 z ∷ cell 12 0 2 0 ∷ []) (rest z) 4
+  unfolding Settled.Set Settled.Expr join_kind cell kind_of left_of
+  rest-at z c = record {
+    right = 3;
+    above = refl;
+    kind-is = refl;
+    below = lit< tt;
+    holds-first = record {
+      right = 1;
       above = refl;
       kind-is = refl;
       below = lit< tt;
-      holds-first = record {
-        right = 1;
-        above = refl;
-        kind-is = refl;
-        below = lit< tt;
-        holds-first = record { cell-is = refl; fits = small a };
-        holds-second = record { cell-is = refl; fits = small b };
-      };
-      holds-second = record { cell-is = refl; fits = small c };
+      holds-first = record { cell-is = refl; fits = small a };
+      holds-second = record { cell-is = refl; fits = small b };
     };
-    fit = ((a, b), c);
+    holds-second = record { cell-is = refl; fits = small c };
   }
+
+  pub rest-holds : (z : ℤ) → InRange z → Held (Settled.Set (number_cell 1 x ∷ number_cell 1 y ∷ cell 11 0 0 0 ∷ number_cell 1 z ∷ cell 12 0 2 0 ∷ [])) (GoodSet 1) 4
+  unfolding GoodSet GoodExpr
+  rest-holds z c = record { part = rest z; at = rest-at z c; fit = ((a, b), c) }
 
 -- [i>0] -> {c![y/i],1} of the locals i and y
 pub gated-holds : (m : Resolved.Model) × Held (Settled.Branch (
@@ -171,3 +174,100 @@ gated-holds = (
 pub rate-holds : (n : ℕ) → n < offset → n ≤ scale_limit → Held (Settled.Rate (number_cell 29 (pos n) ∷ [])) (GoodRate 1) 0
 unfolding Settled.Rate Settled.Scale GoodRate GoodScale
 rate-holds n h g = record { part = Resolved.plain (Resolved.fixed (pos n)); at = record { cell-is = refl; fits = h }; fit = g }
+
+-- ---- tables that begin with x, y, z and y/z
+module _ (x y z : ℤ) (a : InRange x) (b : InRange y) (c : InRange z) where
+  abbrev pub after : List ℕ → List ℕ
+  after cs = number_cell 1 x ∷ number_cell 1 y ∷ number_cell 1 z ∷ cell 8 0 1 0 ∷ cs
+
+  abbrev over : Resolved.Expr
+  over = Resolved.binary divide (Resolved.constant y) (Resolved.constant z)
+
+  first-at : (cs : List ℕ) → Settled.Expr (after cs) (Resolved.constant x) 0
+  unfolding Settled.Expr
+  first-at cs = record { cell-is = refl; fits = small a }
+
+  quotient-at : (cs : List ℕ) → Settled.Expr (after cs) over 3
+  unfolding Settled.Expr op_kind cell kind_of left_of
+  quotient-at cs = record {
+    right = 2;
+    above = refl;
+    kind-is = refl;
+    below = lit< tt;
+    holds-first = record { cell-is = refl; fits = small b };
+    holds-second = record { cell-is = refl; fits = small c };
+  }
+
+  two-fit : Every (GoodExpr 1) (Resolved.constant x ∷ over ∷ [])
+  unfolding Every GoodExpr
+  two-fit = (a, ((b, c), tt))
+
+  -- the set x..y/z
+  pub ends-hold : Held (Settled.Set (after (cell 11 0 0 0 ∷ []))) (GoodSet 1) 4
+  unfolding Settled.Set GoodSet GoodExpr cell kind_of left_of
+  ends-hold = record {
+    part = Resolved.range (Resolved.constant x) over;
+    at = record { right = 3; above = refl; kind-is = refl; below = lit< tt; holds-first = first-at _; holds-second = quotient-at _ };
+    fit = (a, (b, c));
+  }
+
+  -- the condition x>y/z
+  pub greater-holds : Held (Settled.Cond (after (cell 17 0 0 0 ∷ []))) (GoodCond 1) 4
+  unfolding Settled.Cond GoodCond GoodExpr test_kind relation_kind cell kind_of left_of
+  greater-holds = record {
+    part = Resolved.compare false greater (Resolved.constant x) over;
+    at = record { right = 3; above = refl; kind-is = refl; below = lit< tt; holds-first = first-at _; holds-second = quotient-at _ };
+    fit = (a, (b, c));
+  }
+
+  -- the values x,y/z
+  pub values-hold : Held (Settled.OneOrTwo (after (cell 35 0 0 0 ∷ [])) (Settled.Expr (after (cell 35 0 0 0 ∷ [])))) (Every (GoodExpr 1)) 4
+  unfolding Settled.OneOrTwo cell kind_of left_of
+  values-hold = record {
+    part = Resolved.constant x ∷ over ∷ [];
+    at = record { right = 3; above = refl; kind-is = refl; below = lit< tt; holds-first = first-at _; holds-second = quotient-at _ };
+    fit = two-fit;
+  }
+
+  -- the arguments x,y/z, and the call of definition 0 with them
+  abbrev called : List ℕ
+  called = after (cell 52 0 0 0 ∷ cell 51 0 0 2 ∷ [])
+
+  arguments-at : Settled.Arguments called (Resolved.constant x ∷ over ∷ []) 4
+  unfolding Settled.Arguments cell kind_of left_of
+  arguments-at = record { right = 3; above = refl; kind-is = refl; below = lit< tt; holds-first = first-at _; holds-second = quotient-at _ }
+
+  pub arguments-hold : Held (Settled.Arguments called) (Every (GoodExpr 1)) 4
+  arguments-hold = record { part = Resolved.constant x ∷ over ∷ []; at = arguments-at; fit = two-fit }
+
+  pub call-holds : (m : Resolved.Model) × Held (Settled.Parts called) (Every (GoodPart m 1)) 5
+  unfolding Every GoodPart cell kind_of token_of third_of
+  call-holds = (
+    record { sums = []; definitions = record { params = 2; sums = [] } ∷ []; channels = 0; starts = []; words = λ k. [] },
+    record {
+      part = Resolved.call 0 (Resolved.constant x ∷ over ∷ []) ∷ [];
+      at = Settled.called (record { root = 4; above = refl; call-is = record { kind-is = refl; index_is = refl }; count-is = refl; holds = arguments-at });
+      fit = ((record { definition = record { params = 2; sums = [] }; exists = refl; params = refl }, two-fit), tt);
+    },
+  )
+
+  -- the channel of x, y/z and the name 6
+  pub items-hold : (m : Resolved.Model) × Held (Settled.Channel (after (cell 66 6 0 0 ∷ cell 68 0 0 3 ∷ []))) (GoodName m 1) 5
+  unfolding Settled.Channel Settled.Item GoodName GoodItem GoodExpr cell kind_of token_of left_of third_of
+  items-hold = (
+    record { sums = []; definitions = []; channels = 7; starts = []; words = λ k. [] },
+    record {
+      part = three_items (Resolved.number (Resolved.constant x)) (Resolved.number over) (Resolved.name 6);
+      at = record {
+        right = 4;
+        above = refl;
+        kind-is = refl;
+        first_below = lit< tt;
+        second_below = lit< tt;
+        holds-first = first-at _;
+        holds-second = quotient-at _;
+        holds-third = record { kind-is = refl; index_is = refl };
+      };
+      fit = (a, (b, c), lit< tt);
+    },
+  )

@@ -1,6 +1,9 @@
 #![tactic(auto)]
 
 // Evaluates 01's specimens of values, sets, gates and rates over small tables of settled nodes, and prints a line for each.
+#[cfg(test)]
+mod tests;
+
 ghost use Rattle.std.specs.Prelude.{◌≡◌, ◌≤◌, ◌<◌, pos, None, Some};
 ghost use Rattle.eval.specs.declared.offer.Offer.{Offer};
 ghost use Rattle.model.specs.Good.{scale_limit};

@@ -1,0 +1,12 @@
+-- `values` meets its contract: its table holds two values.
+use mir.Facts.{to_z-of_z}
+use Rattle.evals.proofs.Tables.{values-hold, zeros-in}
+use Rattle.evals.proofs.tests.values.Goals as goal
+
+pub values_of-requires : goal.values_of-requires
+values_of-requires c =
+    rw (c.literal.ensures, c.literal-2.ensures, c.literal-3.ensures, c.cell.ensures, c.cell-2.ensures, to_z-of_z c.ranges.x, to_z-of_z c.ranges.y, to_z-of_z c.ranges.z) (values-hold c.args.x c.args.y c.args.z c.requires.0 c.requires.1 c.requires.2)
+
+pub invariant_of-context : goal.invariant_of-context
+invariant_of-context c =
+    record { in_range = zeros-in }

@@ -11,7 +11,7 @@ ghost use Rattle.syntax.specs.Names.{Listing};
 ghost use Rattle.syntax.specs.Actions.{flat_sent, flat_heard, flat_deed, Sent, Heard, deed_at};
 
 use crate::channel;
-use crate::entries::{Set, Value, entries};
+use crate::entries::{Set, Value, entries_at};
 use crate::point::Point;
 use token::Kind;
 use tree::{Members, NodeKind, Read};
@@ -45,7 +45,7 @@ pub fn sending(toks: &[u8], at: usize, nodes: &mut [u64], left: usize, kind: u8)
     ensures follows { Follows toks.now (at + 1) (the_values) (place result) }
     ensures extended { Extended (flat_sent (get_or toks.now at 0)) (λ c v. (c, v)) Table.Channel (Sent kind at) toks.now nodes.old nodes.new at left result }
 {
-    let (n, r) = entries::<Value>(toks, at + 1, nodes, left + 1)?;
+    let (n, r) = entries_at::<Value>(toks, at + 1, nodes, left + 1)?;
     let root = r + 1;
     tree::pair(nodes, root, kind, left);
     Ok((n, root))
@@ -59,7 +59,7 @@ pub fn receiving(toks: &[u8], at: usize, nodes: &mut [u64], left: usize, kind: u
     ensures follows { Follows toks.now (at + 1) (the_sets ++ BoundNames ∷ []) (place result) }
     ensures extended { Extended (flat_heard (get_or toks.now at 0)) (λ c h. (c, h)) Table.Channel (Heard kind at) toks.now nodes.old nodes.new at left result }
 {
-    let (n, r) = entries::<Set>(toks, at + 1, nodes, left + 1)?;
+    let (n, r) = entries_at::<Set>(toks, at + 1, nodes, left + 1)?;
     let root = r + 1;
     if token::peek(toks, n) != b'(' {
         tree::pair(nodes, root, kind, left);
@@ -106,7 +106,7 @@ pub fn check(toks: &[u8], at: usize, nodes: &mut [u64], used: usize) -> Read
     if token::peek(toks, n) != b'?' {
         return Err(n);
     }
-    let (m, r) = entries::<Set>(toks, n + 1, nodes, left + 1)?;
+    let (m, r) = entries_at::<Set>(toks, n + 1, nodes, left + 1)?;
     let root = r + 1;
     tree::pair(nodes, root, NodeKind::CHECK, left);
     Ok((m, root))

@@ -21,7 +21,7 @@ use tree::{NodeKind, Read};
 pub type Roots = Result<(usize, usize, usize), usize>;
 
 // A rate and the `}` after it; the action before it is on the left.
-pub fn closed(left: &Left, nodes: &mut [u64]) -> Roots
+pub fn closed_lent(left: &Left, nodes: &mut [u64]) -> Roots
     ensures follows { Follows left.now.toks.now left.now.at (a_rate ++ Want kind.close_curly ∷ []) (place_counted result) }
     ensures tallied { Tallied flat_closed (λ v. 0) (λ t v. Table.Rate t (rate_at v left.now.at)) left.now.toks.now nodes.old nodes.new left.now.at (left.now.root + 1) left.now.root result }
     ensures spare { Spare left.now.at (left.now.root + 1) left.now.root result }
@@ -34,7 +34,7 @@ pub fn closed(left: &Left, nodes: &mut [u64]) -> Roots
 }
 
 // The comma after the action that is on the left, a rate and the `}`.
-pub fn rated(left: &Left, nodes: &mut [u64]) -> Roots
+pub fn rated_lent(left: &Left, nodes: &mut [u64]) -> Roots
     ensures follows { Follows left.now.toks.now left.now.at (the_rate ++ Want kind.close_curly ∷ []) (place_counted result) }
     ensures rating { Rating left.now.toks.now nodes.old nodes.new left.now.at left.now.root result }
     ensures spare { Spare (left.now.at + 1) (left.now.root + 1) left.now.root result }
@@ -43,11 +43,11 @@ pub fn rated(left: &Left, nodes: &mut [u64]) -> Roots
     if spot.peek() != b',' {
         return Err(left.at);
     }
-    closed(&spot.after(left.at + 1, left.root), nodes)
+    closed_lent(&spot.after(left.at + 1, left.root), nodes)
 }
 
 // What follows a channel's first two items, which are at `first` and on the left, up to the `}`; they left a token without a node.
-pub fn second(left: &Left, nodes: &mut [u64], first: usize) -> Roots
+pub fn second_lent(left: &Left, nodes: &mut [u64], first: usize) -> Roots
     requires spare { left.now.root + 1 < left.now.at }
     requires first_le_root { first ≤ left.now.root }
     ensures follows { Follows left.now.toks.now left.now.at (ThirdItem ∷ the_deed ++ Want kind.close_curly ∷ []) (place_counted result) }
@@ -55,11 +55,11 @@ pub fn second(left: &Left, nodes: &mut [u64], first: usize) -> Roots
 {
     let (n, root) = channel::thirds(left.toks, left.at, nodes, first, left.root)?;
     let (m, deed) = action::deed(left.toks, n, nodes, root)?;
-    rated(&left.spot().after(m, deed), nodes)
+    rated_lent(&left.spot().after(m, deed), nodes)
 }
 
 // What follows an item's first atom, which is on the left.
-pub fn rest(left: &Left, nodes: &mut [u64]) -> Read
+pub fn rest_lent(left: &Left, nodes: &mut [u64]) -> Read
     ensures follows { Follows left.now.toks.now left.now.at (Factors' ∷ Terms' ∷ []) (place result) }
     ensures extended { Extended flat_rest (λ x p. rest_at x p left.now.at) Table.Expr Table.Expr left.now.toks.now nodes.old nodes.new left.now.at left.now.root result }
 {
@@ -68,7 +68,7 @@ pub fn rest(left: &Left, nodes: &mut [u64]) -> Read
 }
 
 // After a name and a comma, what may be a rate's number or name, or an item's, perhaps times an atom: the last of its tokens is `digits`, its node is of the one kind or the other.
-pub fn undecided(
+pub fn undecided_lent(
     named: &Named<{ b',' }>,
     nodes: &mut [u64],
     digits: usize,
@@ -102,35 +102,35 @@ pub fn undecided(
     if waits {
         return Ok((n + 1, root, spot.used));
     }
-    let (m, mid) = rest(&spot.after(n, root), nodes)?;
-    second(&spot.after(m, mid), nodes, spot.used)
+    let (m, mid) = rest_lent(&spot.after(n, root), nodes)?;
+    second_lent(&spot.after(m, mid), nodes, spot.used)
 }
 
 // A name and a comma, and what follows: a rate, or a channel's second item.
-pub fn lone(named: &Named<{ b',' }>, nodes: &mut [u64]) -> Roots
+pub fn lone_lent(named: &Named<{ b',' }>, nodes: &mut [u64]) -> Roots
     ensures follows { Follows named.now.spot.toks.now named.now.spot.at (Braced ∷ Want kind.close_curly ∷ []) (place_counted result) }
     ensures inside { Inside named.now.spot.toks.now nodes.old nodes.new named.now.spot.at named.now.spot.used result }
 {
     let spot = named.spot;
     let n = spot.at + 1 + 1;
     match token::peek(spot.toks, n) {
-        Kind::NAME => undecided(named, nodes, n, NodeKind::SCALE_NAME, NodeKind::NAMED),
-        Kind::WHOLE => undecided(named, nodes, n, NodeKind::NUMBER, NodeKind::LITERAL),
-        b'-' => lone_minus(named, nodes),
+        Kind::NAME => undecided_lent(named, nodes, n, NodeKind::SCALE_NAME, NodeKind::NAMED),
+        Kind::WHOLE => undecided_lent(named, nodes, n, NodeKind::NUMBER, NodeKind::LITERAL),
+        b'-' => lone_minus_lent(named, nodes),
         Kind::DECIMAL => {
             tree::leaf(nodes, spot.used, NodeKind::WAIT, spot.at);
-            closed(&spot.after(n, spot.used), nodes)
+            closed_lent(&spot.after(n, spot.used), nodes)
         }
         _ => {
             tree::leaf(nodes, spot.used, NodeKind::NAMED, spot.at);
             let (m, mid) = expression::expr(spot.toks, n, nodes, spot.used + 1)?;
-            second(&spot.after(m, mid), nodes, spot.used)
+            second_lent(&spot.after(m, mid), nodes, spot.used)
         }
     }
 }
 
 // A name, a comma and a `-`, and what follows.
-pub fn lone_minus(named: &Named<{ b',' }>, nodes: &mut [u64]) -> Roots
+pub fn lone_minus_lent(named: &Named<{ b',' }>, nodes: &mut [u64]) -> Roots
     requires at_value_2 { get_or named.now.spot.toks.now (named.now.spot.at + 1 + 1) 0 ≡ kind.minus }
     ensures follows { Follows named.now.spot.toks.now named.now.spot.at (Braced ∷ Want kind.close_curly ∷ []) (place_counted result) }
     ensures inside { Inside named.now.spot.toks.now nodes.old nodes.new named.now.spot.at named.now.spot.used result }
@@ -139,7 +139,7 @@ pub fn lone_minus(named: &Named<{ b',' }>, nodes: &mut [u64]) -> Roots
     let n = spot.at + 1 + 1;
     let digits = n + 1;
     match token::peek(spot.toks, digits) {
-        Kind::WHOLE => undecided(
+        Kind::WHOLE => undecided_lent(
             named,
             nodes,
             digits,
@@ -148,33 +148,33 @@ pub fn lone_minus(named: &Named<{ b',' }>, nodes: &mut [u64]) -> Roots
         ),
         Kind::DECIMAL => {
             tree::leaf(nodes, spot.used, NodeKind::WAIT, spot.at);
-            closed(&spot.after(n, spot.used), nodes)
+            closed_lent(&spot.after(n, spot.used), nodes)
         }
         _ => Err(digits),
     }
 }
 
 // Action, comma, rate and `}`.
-pub fn braced(spot: &Spot, nodes: &mut [u64]) -> Roots
+pub fn braced_lent(spot: &Spot, nodes: &mut [u64]) -> Roots
     ensures follows { Follows spot.now.toks.now spot.now.at (Braced ∷ Want kind.close_curly ∷ []) (place_counted result) }
     ensures inside { Inside spot.now.toks.now nodes.old nodes.new spot.now.at spot.now.used result }
 {
     match spot.peek() {
         b'~' => {
             let (n, root) = action::check(spot.toks, spot.at, nodes, spot.used)?;
-            rated(&spot.after(n, root), nodes)
+            rated_lent(&spot.after(n, root), nodes)
         }
         b'@' => {
             let (n, root) = action::handshake(spot.toks, spot.at, nodes, spot.used)?;
-            rated(&spot.after(n, root), nodes)
+            rated_lent(&spot.after(n, root), nodes)
         }
-        Kind::NAME if token::peek(spot.toks, spot.at + 1) == b',' => lone(
+        Kind::NAME if token::peek(spot.toks, spot.at + 1) == b',' => lone_lent(
             &Named { spot: *spot },
             nodes,
         ),
         _ => {
             let (n, root) = action::beacon(spot.toks, spot.at, nodes, spot.used)?;
-            rated(&spot.after(n, root), nodes)
+            rated_lent(&spot.after(n, root), nodes)
         }
     }
 }

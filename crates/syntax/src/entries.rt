@@ -12,7 +12,7 @@ pub trait Entry {
     ghost which: { entries.Entry };
 
     // One of them.
-    fn read(toks: &[u8], at: usize, nodes: &mut [u64], used: usize) -> Read
+    fn read_at(toks: &[u8], at: usize, nodes: &mut [u64], used: usize) -> Read
         requires { Ready toks.now at used }
         ensures follows { Follows toks.now at (an_entry which) (place result) }
         ensures parsed { Parsed (flat_entry which) (λ t x. Holds which t x at) toks.now nodes.old nodes.new at used result };
@@ -23,7 +23,7 @@ pub struct Value;
 impl Entry for Value {
     ghost which = { entries.value };
 
-    fn read(toks: &[u8], at: usize, nodes: &mut [u64], used: usize) -> Read {
+    fn read_at(toks: &[u8], at: usize, nodes: &mut [u64], used: usize) -> Read {
         expression::expr(toks, at, nodes, used)
     }
 }
@@ -33,13 +33,13 @@ pub struct Set;
 impl Entry for Set {
     ghost which = { entries.set };
 
-    fn read(toks: &[u8], at: usize, nodes: &mut [u64], used: usize) -> Read {
+    fn read_at(toks: &[u8], at: usize, nodes: &mut [u64], used: usize) -> Read {
         set::set(toks, at, nodes, used)
     }
 }
 
 // One or two entries in square brackets.
-pub fn entries<E: Entry>(toks: &[u8], at: usize, nodes: &mut [u64], used: usize) -> Read
+pub fn entries_at<E: Entry>(toks: &[u8], at: usize, nodes: &mut [u64], used: usize) -> Read
     requires { Ready toks.now at used }
     ensures follows { Follows toks.now at (the_entries E.which) (place result) }
     ensures parsed { Parsed (flat_entries E.which) (λ t x. HoldsAll E.which t x at) toks.now nodes.old nodes.new at used result }
@@ -47,7 +47,7 @@ pub fn entries<E: Entry>(toks: &[u8], at: usize, nodes: &mut [u64], used: usize)
     if token::peek(toks, at) != b'[' {
         return Err(at);
     }
-    let (n, left) = E::read(toks, at + 1, nodes, used)?;
+    let (n, left) = E::read_at(toks, at + 1, nodes, used)?;
     let t = token::peek(toks, n);
     if t == b']' {
         return Ok((n + 1, left));
@@ -55,7 +55,7 @@ pub fn entries<E: Entry>(toks: &[u8], at: usize, nodes: &mut [u64], used: usize)
     if t != b',' {
         return Err(n);
     }
-    let (m, r) = E::read(toks, n + 1, nodes, left + 1)?;
+    let (m, r) = E::read_at(toks, n + 1, nodes, left + 1)?;
     if token::peek(toks, m) != b']' {
         return Err(m);
     }

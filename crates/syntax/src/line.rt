@@ -30,7 +30,7 @@ pub fn params(point: Point) -> Members
 }
 
 // The definition whose name stands here.
-pub fn definition(named: &Named<{ b'[' }>, nodes: &mut [u64], sums: usize) -> Counted
+pub fn definition_lent(named: &Named<{ b'[' }>, nodes: &mut [u64], sums: usize) -> Counted
     requires sums_le_name { sums ≤ named.now.spot.at }
     ensures follows { Follows named.now.spot.toks.now (named.now.spot.at + 2) in_definition (place_counted result) }
     ensures tallied { Tallied written_definition count_definition (λ t d. Definition t d named.now.spot.at sums) named.now.spot.toks.now nodes.old nodes.new (named.now.spot.at + 1) named.now.spot.used sums result }
@@ -48,7 +48,7 @@ pub fn definition(named: &Named<{ b'[' }>, nodes: &mut [u64], sums: usize) -> Co
         spot: spot.to(n + 1, spot.used),
         sums,
     };
-    let (m, r, s) = process::body(&site, nodes)?;
+    let (m, r, s) = process::body_lent(&site, nodes)?;
     if token::peek(spot.toks, m) != b';' {
         return Err(m);
     }
@@ -72,28 +72,28 @@ pub fn defines(point: Point) -> bool
 }
 
 // The definitions, the first of them named here, and the system line.
-pub fn definitions(named: &Named<{ b'[' }>, nodes: &mut [u64], sums: usize) -> Read
+pub fn definitions_lent(named: &Named<{ b'[' }>, nodes: &mut [u64], sums: usize) -> Read
     requires sums_le_name { sums ≤ named.now.spot.at }
     ensures follows { Follows named.now.spot.toks.now (named.now.spot.at + 2) (in_definition ++ NextLine ∷ []) (place result) }
     ensures parsed { Parsed flat_definitions (λ t d. Table.Definitions t (definitions_at d named.now.spot.at sums)) named.now.spot.toks.now nodes.old nodes.new named.now.spot.at named.now.spot.used result }
 {
-    let (n, left, s) = definition(named, nodes, sums)?;
+    let (n, left, s) = definition_lent(named, nodes, sums)?;
     let spot = named.spot.to(n, left + 1);
     let next = Point {
         toks: spot.toks,
         at: spot.at,
     };
     let ((m, r), kind) = if defines(next) {
-        (definitions(&Named { spot }, nodes, s)?, NodeKind::NEXT)
+        (definitions_lent(&Named { spot }, nodes, s)?, NodeKind::NEXT)
     } else {
-        (system(&spot, nodes)?, NodeKind::LAST)
+        (system_lent(&spot, nodes)?, NodeKind::LAST)
     };
     let root = r + 1;
     tree::pair(nodes, root, kind, left);
     Ok((m, root))
 }
 
-// Whole numbers parted by commas and the `]` after them, with their count. Beside `process::call` stands why this and `args` there are no one function.
+// Whole numbers parted by commas and the `]` after them, with their count. Beside `process::call_lent` stands why this and `args` there are no one function.
 pub fn wholes(toks: &[u8], at: usize, nodes: &mut [u64], used: usize) -> Counted
     requires { Ready toks.now at used }
     ensures follows { Follows toks.now at (Whole' ∷ MoreWholes ∷ Want kind.close_square ∷ []) (place_counted result) }
@@ -113,8 +113,8 @@ pub fn wholes(toks: &[u8], at: usize, nodes: &mut [u64], used: usize) -> Counted
     Ok((m, root, count + 1))
 }
 
-// The values of the item whose name is the token `name`, from the `[` on; `base` is the kind of an item without values. Beside `process::call` stands why this and the reader there are no one function.
-pub fn starts(spot: &Spot, nodes: &mut [u64], name: usize, base: u8) -> Read
+// The values of the item whose name is the token `name`, from the `[` on; `base` is the kind of an item without values. Beside `process::call_lent` stands why this and the reader there are no one function.
+pub fn starts_lent(spot: &Spot, nodes: &mut [u64], name: usize, base: u8) -> Read
     requires name_before { name ≤ spot.now.at }
     requires base_bound { base < 255 }
     ensures follows { Follows spot.now.toks.now spot.now.at the_starts (place result) }
@@ -135,13 +135,13 @@ pub fn starts(spot: &Spot, nodes: &mut [u64], name: usize, base: u8) -> Read
 }
 
 // An item of the system line.
-pub fn start(spot: &Spot, nodes: &mut [u64]) -> Read
+pub fn start_lent(spot: &Spot, nodes: &mut [u64]) -> Read
     ensures follows { Follows spot.now.toks.now spot.now.at (Start' ∷ []) (place result) }
     ensures parsed { Parsed flat_start (λ t s. Table.Start t (start_at s spot.now.at)) spot.now.toks.now nodes.old nodes.new spot.now.at spot.now.used result }
 {
     let t = spot.peek();
     if t == Kind::NAME {
-        return starts(&spot.next(), nodes, spot.at, NodeKind::START);
+        return starts_lent(&spot.next(), nodes, spot.at, NodeKind::START);
     }
     if t != Kind::WHOLE {
         return Err(spot.at);
@@ -154,7 +154,7 @@ pub fn start(spot: &Spot, nodes: &mut [u64]) -> Read
     if token::peek(spot.toks, name) != Kind::NAME {
         return Err(name);
     }
-    starts(
+    starts_lent(
         &spot.to(name + 1, spot.used),
         nodes,
         name,
@@ -162,12 +162,12 @@ pub fn start(spot: &Spot, nodes: &mut [u64]) -> Read
     )
 }
 
-// The items of the system line, with its `;`. Beside `process::items` stands why this and the reader there are no one function.
-pub fn system(spot: &Spot, nodes: &mut [u64]) -> Read
+// The items of the system line, with its `;`. Beside `process::items_lent` stands why this and the reader there are no one function.
+pub fn system_lent(spot: &Spot, nodes: &mut [u64]) -> Read
     ensures follows { Follows spot.now.toks.now spot.now.at (Start' ∷ SystemEnd ∷ []) (place result) }
     ensures parsed { Parsed flat_system (λ t s. Table.System t (system_at s spot.now.at)) spot.now.toks.now nodes.old nodes.new spot.now.at spot.now.used result }
 {
-    let (n, left) = start(spot, nodes)?;
+    let (n, left) = start_lent(spot, nodes)?;
     let t = token::peek(spot.toks, n);
     if t == b';' {
         return Ok((n + 1, left));
@@ -175,15 +175,15 @@ pub fn system(spot: &Spot, nodes: &mut [u64]) -> Read
     if t != Kind::BARS {
         return Err(n);
     }
-    let (m, r) = system(&spot.to(n + 1, left + 1), nodes)?;
+    let (m, r) = system_lent(&spot.to(n + 1, left + 1), nodes)?;
     let root = r + 1;
     tree::pair(nodes, root, NodeKind::SYSTEM, left);
     Ok((m, root))
 }
 
 // Variables, definitions and system line.
-#[cycle(model_variable)]
-pub fn model(spot: &Spot, nodes: &mut [u64]) -> Read
+#[cycle(model_lent_variable_lent)]
+pub fn model_lent(spot: &Spot, nodes: &mut [u64]) -> Read
     ensures follows { Follows spot.now.toks.now spot.now.at (Line ∷ []) (place result) }
     ensures parsed { Parsed flat_model (λ t m. Table.Model t (model_at m spot.now.at)) spot.now.toks.now nodes.old nodes.new spot.now.at spot.now.used result }
 {
@@ -193,17 +193,17 @@ pub fn model(spot: &Spot, nodes: &mut [u64]) -> Read
     let n = spot.at + 1;
     let t = token::peek(spot.toks, n);
     if t == b'[' {
-        return definitions(&Named { spot: *spot }, nodes, 0);
+        return definitions_lent(&Named { spot: *spot }, nodes, 0);
     }
     if t != b'=' {
         return Err(n);
     }
-    variable(&Named { spot: *spot }, nodes)
+    variable_lent(&Named { spot: *spot }, nodes)
 }
 
 // The variable named here, and what follows it.
-#[cycle(model_variable)]
-pub fn variable(named: &Named<{ b'=' }>, nodes: &mut [u64]) -> Read
+#[cycle(model_lent_variable_lent)]
+pub fn variable_lent(named: &Named<{ b'=' }>, nodes: &mut [u64]) -> Read
     ensures follows { Follows named.now.spot.toks.now (named.now.spot.at + 2) (Number' ∷ Want kind.semicolon ∷ Line ∷ []) (place result) }
     ensures parsed { Parsed flat_model (λ t m. Table.Model t (model_at m named.now.spot.at)) named.now.spot.toks.now nodes.old nodes.new named.now.spot.at named.now.spot.used result }
 {
@@ -212,7 +212,7 @@ pub fn variable(named: &Named<{ b'=' }>, nodes: &mut [u64]) -> Read
     if token::peek(spot.toks, n) != b';' {
         return Err(n);
     }
-    let (m, r) = model(&spot.to(n + 1, left + 1), nodes)?;
+    let (m, r) = model_lent(&spot.to(n + 1, left + 1), nodes)?;
     let root = r + 1;
     tree::node(nodes, root, NodeKind::VARIABLE, spot.at, left, 0);
     Ok((m, root))
@@ -228,7 +228,7 @@ pub fn read_text(toks: &[u8], nodes: &mut [u64]) -> Result<usize, usize>
         at: 0,
         used: 0,
     };
-    let (n, r) = model(&spot, nodes)?;
+    let (n, r) = model_lent(&spot, nodes)?;
     if n < toks.len() {
         return Err(n);
     }

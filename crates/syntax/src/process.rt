@@ -17,21 +17,21 @@ use token::Kind;
 use tree::{Counted, NodeKind, Read};
 
 // A guarded prefix. It has a token more than it needs for its nodes, and for its sums.
-#[cycle(branches_cont_gated_group_item_items_offer_prefix_sum)]
-pub fn prefix(site: &Site<1>, nodes: &mut [u64]) -> Counted
+#[cycle(branches_lent_cont_lent_gated_lent_group_lent_item_lent_items_lent_offer_lent_prefix_lent_sum_lent)]
+pub fn prefix_lent(site: &Site<1>, nodes: &mut [u64]) -> Counted
     ensures follows { Follows site.now.spot.toks.now site.now.spot.at (a_prefix) (place_counted result) }
     ensures tallied { Tallied flat_prefix sums_prefix (λ t p. Table.Branch t (branch_at p site.now.spot.at site.now.sums)) site.now.spot.toks.now nodes.old nodes.new site.now.spot.at site.now.spot.used site.now.sums result }
     ensures spare { Spare site.now.spot.at site.now.spot.used site.now.sums result }
 {
     if site.spot.peek() == b'[' {
-        return gated(site, nodes);
+        return gated_lent(site, nodes);
     }
-    offer(site, nodes, site.spot.at)
+    offer_lent(site, nodes, site.spot.at)
 }
 
 // A prefix with a gate, from its `[` on.
-#[cycle(branches_cont_gated_group_item_items_offer_prefix_sum)]
-pub fn gated(site: &Site<1>, nodes: &mut [u64]) -> Counted
+#[cycle(branches_lent_cont_lent_gated_lent_group_lent_item_lent_items_lent_offer_lent_prefix_lent_sum_lent)]
+pub fn gated_lent(site: &Site<1>, nodes: &mut [u64]) -> Counted
     requires at_value { get_or site.now.spot.toks.now site.now.spot.at 0 ≡ kind.open_square }
     ensures follows { Follows site.now.spot.toks.now site.now.spot.at (a_prefix) (place_counted result) }
     ensures tallied { Tallied flat_prefix sums_prefix (λ t p. Table.Branch t (branch_at p site.now.spot.at site.now.sums)) site.now.spot.toks.now nodes.old nodes.new site.now.spot.at site.now.spot.used site.now.sums result }
@@ -50,15 +50,15 @@ pub fn gated(site: &Site<1>, nodes: &mut [u64]) -> Counted
         spot: spot.to(arrow + 1, left + 1),
         sums: site.sums,
     };
-    let (m, r, s) = offer(&inner, nodes, spot.at)?;
+    let (m, r, s) = offer_lent(&inner, nodes, spot.at)?;
     let root = r + 1;
     tree::node(nodes, root, NodeKind::GATE, spot.at, left, 0);
     Ok((m, root, s))
 }
 
 // Action and rate in their braces, and the continuation, if any; `first` is the first token of the prefix.
-#[cycle(branches_cont_gated_group_item_items_offer_prefix_sum)]
-pub fn offer(site: &Site<1>, nodes: &mut [u64], first: usize) -> Counted
+#[cycle(branches_lent_cont_lent_gated_lent_group_lent_item_lent_items_lent_offer_lent_prefix_lent_sum_lent)]
+pub fn offer_lent(site: &Site<1>, nodes: &mut [u64], first: usize) -> Counted
     requires first_le_at { first ≤ site.now.spot.at }
     ensures follows { Follows site.now.spot.toks.now site.now.spot.at (Want kind.open_curly ∷ in_braces) (place_counted result) }
     ensures tallied { Tallied flat_offer sums_offer (λ t o. Table.Branch t (offer_at first o site.now.spot.at site.now.sums)) site.now.spot.toks.now nodes.old nodes.new site.now.spot.at site.now.spot.used site.now.sums result }
@@ -68,7 +68,7 @@ pub fn offer(site: &Site<1>, nodes: &mut [u64], first: usize) -> Counted
     if spot.peek() != b'{' {
         return Err(spot.at);
     }
-    let (point, middle, left) = braced::braced(&spot.next(), nodes)?;
+    let (point, middle, left) = braced::braced_lent(&spot.next(), nodes)?;
     if token::peek(spot.toks, point) != b'.' {
         let root = middle + 1;
         tree::node(nodes, root, NodeKind::STOP, first, left, 0);
@@ -78,28 +78,28 @@ pub fn offer(site: &Site<1>, nodes: &mut [u64], first: usize) -> Counted
         spot: spot.to(point + 1, middle + 1),
         sums: site.sums,
     };
-    let (e, r, s) = cont(&next, nodes)?;
+    let (e, r, s) = cont_lent(&next, nodes)?;
     let root = r + 1;
     tree::node(nodes, root, NodeKind::DOT, first, left, middle);
     Ok((e, root, s))
 }
 
 // A continuation: a group, a call, or a prefix as a sum of its own.
-#[cycle(branches_cont_gated_group_item_items_offer_prefix_sum)]
-pub fn cont(site: &Site<0>, nodes: &mut [u64]) -> Counted
+#[cycle(branches_lent_cont_lent_gated_lent_group_lent_item_lent_items_lent_offer_lent_prefix_lent_sum_lent)]
+pub fn cont_lent(site: &Site<0>, nodes: &mut [u64]) -> Counted
     ensures follows { Follows site.now.spot.toks.now site.now.spot.at (Cont' ∷ []) (place_counted result) }
     ensures tallied { Tallied flat_cont sums_cont (λ t c. Table.Cont t (cont_at c site.now.spot.at site.now.sums)) site.now.spot.toks.now nodes.old nodes.new site.now.spot.at site.now.spot.used site.now.sums result }
 {
     let Site { spot, sums } = *site;
     match spot.peek() {
-        b'(' => group(site, nodes),
-        Kind::NAME => call(&spot, nodes, sums),
+        b'(' => group_lent(site, nodes),
+        Kind::NAME => call_lent(&spot, nodes, sums),
         _ => {
             let inner = Site {
                 spot,
                 sums: sums + 1,
             };
-            let (n, r, s) = prefix(&inner, nodes)?;
+            let (n, r, s) = prefix_lent(&inner, nodes)?;
             let root = r + 1;
             tree::node(nodes, root, NodeKind::SUM, sums, 0, spot.at);
             Ok((n, root, s))
@@ -108,8 +108,8 @@ pub fn cont(site: &Site<0>, nodes: &mut [u64]) -> Counted
 }
 
 // A call, from its name on.
-// One generic function for this and `line::starts`, and one for `args` and `line::wholes`, would be longer than the four: a trait with a reader and a kind, and sixteen definitions of what each reads.
-pub fn call(spot: &Spot, nodes: &mut [u64], sums: usize) -> Counted
+// One generic function for this and `line::starts_lent`, and one for `args` and `line::wholes`, would be longer than the four: a trait with a reader and a kind, and sixteen definitions of what each reads.
+pub fn call_lent(spot: &Spot, nodes: &mut [u64], sums: usize) -> Counted
     requires at_value { get_or spot.now.toks.now spot.now.at 0 ≡ kind.name }
     ensures follows { Follows spot.now.toks.now (spot.now.at + 1) (the_args) (place_counted result) }
     ensures tallied { Tallied flat_call (λ a. 0) (λ t a. Table.Cont t (call_at a spot.now.at)) spot.now.toks.now nodes.old nodes.new spot.now.at spot.now.used sums result }
@@ -150,8 +150,8 @@ pub fn args(toks: &[u8], at: usize, nodes: &mut [u64], used: usize) -> Counted
 }
 
 // A group, from its `(` on.
-#[cycle(branches_cont_gated_group_item_items_offer_prefix_sum)]
-pub fn group(site: &Site<0>, nodes: &mut [u64]) -> Counted
+#[cycle(branches_lent_cont_lent_gated_lent_group_lent_item_lent_items_lent_offer_lent_prefix_lent_sum_lent)]
+pub fn group_lent(site: &Site<0>, nodes: &mut [u64]) -> Counted
     requires at_value { get_or site.now.spot.toks.now site.now.spot.at 0 ≡ kind.open_round }
     ensures follows { Follows site.now.spot.toks.now (site.now.spot.at + 1) (Item' ∷ Items' ∷ []) (place_counted result) }
     ensures tallied { Tallied flat_group sums_item_list (λ t g. Table.Cont t (group_at g site.now.spot.at site.now.sums)) site.now.spot.toks.now nodes.old nodes.new site.now.spot.at site.now.spot.used site.now.sums result }
@@ -160,21 +160,21 @@ pub fn group(site: &Site<0>, nodes: &mut [u64]) -> Counted
         spot: site.spot.next(),
         sums: site.sums,
     };
-    let (n, r, s) = items(&inner, nodes)?;
+    let (n, r, s) = items_lent(&inner, nodes)?;
     let root = r + 1;
     tree::node(nodes, root, NodeKind::GROUP, site.spot.at, 0, 0);
     Ok((n, root, s))
 }
 
 // The items of a group and its `)`.
-// Not one generic function with `line::system`, nor `branches` with `body`: the borrow checker covers no cycle of calls that goes through a trait's method.
-#[cycle(branches_cont_gated_group_item_items_offer_prefix_sum)]
-pub fn items(site: &Site<0>, nodes: &mut [u64]) -> Counted
+// Not one generic function with `line::system_lent`, nor `branches_lent` with `body_lent`: the borrow checker covers no cycle of calls that goes through a trait's method.
+#[cycle(branches_lent_cont_lent_gated_lent_group_lent_item_lent_items_lent_offer_lent_prefix_lent_sum_lent)]
+pub fn items_lent(site: &Site<0>, nodes: &mut [u64]) -> Counted
     ensures follows { Follows site.now.spot.toks.now site.now.spot.at (Item' ∷ Items' ∷ []) (place_counted result) }
     ensures tallied { Tallied flat_item_list sums_item_list (λ t g. Table.Conts t (item_list_at g site.now.spot.at site.now.sums)) site.now.spot.toks.now nodes.old nodes.new site.now.spot.at site.now.spot.used site.now.sums result }
 {
     let spot = site.spot;
-    let (n, left, s) = item(site, nodes)?;
+    let (n, left, s) = item_lent(site, nodes)?;
     let t = token::peek(spot.toks, n);
     if t == b')' {
         return Ok((n + 1, left, s));
@@ -186,28 +186,28 @@ pub fn items(site: &Site<0>, nodes: &mut [u64]) -> Counted
         spot: spot.to(n + 1, left + 1),
         sums: s,
     };
-    let (m, r, q) = items(&next, nodes)?;
+    let (m, r, q) = items_lent(&next, nodes)?;
     let root = r + 1;
     tree::pair(nodes, root, NodeKind::ITEM, left);
     Ok((m, root, q))
 }
 
 // An item of a group: a group, a call or a sum.
-#[cycle(branches_cont_gated_group_item_items_offer_prefix_sum)]
-pub fn item(site: &Site<0>, nodes: &mut [u64]) -> Counted
+#[cycle(branches_lent_cont_lent_gated_lent_group_lent_item_lent_items_lent_offer_lent_prefix_lent_sum_lent)]
+pub fn item_lent(site: &Site<0>, nodes: &mut [u64]) -> Counted
     ensures follows { Follows site.now.spot.toks.now site.now.spot.at (Item' ∷ []) (place_counted result) }
     ensures tallied { Tallied flat_item sums_item (λ t i. Table.Cont t (item_at i site.now.spot.at site.now.sums)) site.now.spot.toks.now nodes.old nodes.new site.now.spot.at site.now.spot.used site.now.sums result }
 {
     match site.spot.peek() {
-        b'(' => group(site, nodes),
-        Kind::NAME => call(&site.spot, nodes, site.sums),
-        _ => sum(site, nodes),
+        b'(' => group_lent(site, nodes),
+        Kind::NAME => call_lent(&site.spot, nodes, site.sums),
+        _ => sum_lent(site, nodes),
     }
 }
 
 // Prefixes joined by `+`, with their number.
-#[cycle(branches_cont_gated_group_item_items_offer_prefix_sum)]
-pub fn sum(site: &Site<0>, nodes: &mut [u64]) -> Counted
+#[cycle(branches_lent_cont_lent_gated_lent_group_lent_item_lent_items_lent_offer_lent_prefix_lent_sum_lent)]
+pub fn sum_lent(site: &Site<0>, nodes: &mut [u64]) -> Counted
     ensures follows { Follows site.now.spot.toks.now site.now.spot.at (a_sum) (place_counted result) }
     ensures tallied { Tallied written_sum count_sum (λ t x. Table.Sum t (sum_at x.0 x.1 site.now.spot.at site.now.sums)) site.now.spot.toks.now nodes.old nodes.new site.now.spot.at site.now.spot.used site.now.sums result }
 {
@@ -216,21 +216,21 @@ pub fn sum(site: &Site<0>, nodes: &mut [u64]) -> Counted
         spot,
         sums: sums + 1,
     };
-    let (n, r, s) = branches(&inner, nodes)?;
+    let (n, r, s) = branches_lent(&inner, nodes)?;
     let root = r + 1;
     tree::node(nodes, root, NodeKind::SUM, sums, 0, spot.at);
     Ok((n, root, s))
 }
 
 // Prefixes joined by `+`.
-#[cycle(branches_cont_gated_group_item_items_offer_prefix_sum)]
-pub fn branches(site: &Site<1>, nodes: &mut [u64]) -> Counted
+#[cycle(branches_lent_cont_lent_gated_lent_group_lent_item_lent_items_lent_offer_lent_prefix_lent_sum_lent)]
+pub fn branches_lent(site: &Site<1>, nodes: &mut [u64]) -> Counted
     ensures follows { Follows site.now.spot.toks.now site.now.spot.at (a_sum) (place_counted result) }
     ensures tallied { Tallied written_sum sums_branches (λ t x. Table.Branches t (branches_from x site.now.spot.at site.now.sums)) site.now.spot.toks.now nodes.old nodes.new site.now.spot.at site.now.spot.used site.now.sums result }
     ensures spare { Spare site.now.spot.at site.now.spot.used site.now.sums result }
 {
     let spot = site.spot;
-    let (n, left, s) = prefix(site, nodes)?;
+    let (n, left, s) = prefix_lent(site, nodes)?;
     if token::peek(spot.toks, n) != b'+' {
         return Ok((n, left, s));
     }
@@ -238,19 +238,19 @@ pub fn branches(site: &Site<1>, nodes: &mut [u64]) -> Counted
         spot: spot.to(n + 1, left + 1),
         sums: s,
     };
-    let (m, r, q) = branches(&next, nodes)?;
+    let (m, r, q) = branches_lent(&next, nodes)?;
     let root = r + 1;
     tree::pair(nodes, root, NodeKind::CHOICE, left);
     Ok((m, root, q))
 }
 
 // A definition's body: sums joined by `||`.
-pub fn body(site: &Site<0>, nodes: &mut [u64]) -> Counted
+pub fn body_lent(site: &Site<0>, nodes: &mut [u64]) -> Counted
     ensures follows { Follows site.now.spot.toks.now site.now.spot.at (a_body) (place_counted result) }
     ensures tallied { Tallied flat_body sums_body (λ t b. Table.Sums t (body_at b site.now.spot.at site.now.sums)) site.now.spot.toks.now nodes.old nodes.new site.now.spot.at site.now.spot.used site.now.sums result }
 {
     let spot = site.spot;
-    let (n, left, s) = sum(site, nodes)?;
+    let (n, left, s) = sum_lent(site, nodes)?;
     if token::peek(spot.toks, n) != Kind::BARS {
         return Ok((n, left, s));
     }
@@ -258,7 +258,7 @@ pub fn body(site: &Site<0>, nodes: &mut [u64]) -> Counted
         spot: spot.to(n + 1, left + 1),
         sums: s,
     };
-    let (m, r, q) = body(&next, nodes)?;
+    let (m, r, q) = body_lent(&next, nodes)?;
     let root = r + 1;
     tree::pair(nodes, root, NodeKind::BESIDE, left);
     Ok((m, root, q))

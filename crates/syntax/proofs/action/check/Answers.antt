@@ -15,8 +15,8 @@ returns-in_err-n c =
 
 pub returns-in_err-m : goal.returns-in_err-m
 returns-in_err-m c =
-    rw (raised c.from_residual-in_err-m.ensures.1) (let r = check-unset c.args.toks.now c.args.nodes.now _ c.args.at c.args.used c.requires.at_value (c.channel.ensures.follows, c.channel.ensures.parsed) c.in_ok-n.was (same c.peek.ensures c.if-peek-ne63.false) _ (c.entries.ensures.follows, c.entries.ensures.parsed) c.in_err-m.was in record { follows = r.0; parsed = r.1 })
+    rw (raised c.from_residual-in_err-m.ensures.1) (let r = check-unset c.args.toks.now c.args.nodes.now _ c.args.at c.args.used c.requires.at_value (c.channel.ensures.follows, c.channel.ensures.parsed) c.in_ok-n.was (same c.peek.ensures c.if-peek-ne63.false) _ (c.entries_at.ensures.follows, c.entries_at.ensures.parsed) c.in_err-m.was in record { follows = r.0; parsed = r.1 })
 
 pub returns : goal.returns
 returns c =
-    let ready = check-ready c.args.toks.now c.args.nodes.now _ c.args.at c.args.used c.requires.at_value (c.channel.ensures.follows, c.channel.ensures.parsed) c.in_ok-n.was (same c.peek.ensures c.if-peek-ne63.false) c.requires.ready in let r = check-node c.args.toks.now c.args.nodes.now _ c.args.at c.args.used c.requires.at_value (c.channel.ensures.follows, c.channel.ensures.parsed) c.in_ok-n.was (same c.peek.ensures c.if-peek-ne63.false) _ (c.entries.ensures.follows, c.entries.ensures.parsed) c.in_ok-m.was (record { written = c.pair.ensures; token-fits = omega arith; left-fits = omega (arith, ready.room, ready.inside, ready.few); third-fits = omega arith }) in record { follows = r.0; parsed = r.1 }
+    let ready = check-ready c.args.toks.now c.args.nodes.now _ c.args.at c.args.used c.requires.at_value (c.channel.ensures.follows, c.channel.ensures.parsed) c.in_ok-n.was (same c.peek.ensures c.if-peek-ne63.false) c.requires.ready in let r = check-node c.args.toks.now c.args.nodes.now _ c.args.at c.args.used c.requires.at_value (c.channel.ensures.follows, c.channel.ensures.parsed) c.in_ok-n.was (same c.peek.ensures c.if-peek-ne63.false) _ (c.entries_at.ensures.follows, c.entries_at.ensures.parsed) c.in_ok-m.was (record { written = c.pair.ensures; token-fits = omega arith; left-fits = omega (arith, ready.room, ready.inside, ready.few); third-fits = omega arith }) in record { follows = r.0; parsed = r.1 }

@@ -5,12 +5,12 @@ use Rattle.syntax.proofs.line.read_text.Goals as goal
 
 pub returns-then-n-toks : goal.returns-then-n-toks
 returns-then-n-toks c =
-    text-longer _ _ _ (c.model.ensures.follows, c.model.ensures.parsed) c.in_ok-n.was c.if-n-toks.true
+    text-longer _ _ _ (c.model_lent.ensures.follows, c.model_lent.ensures.parsed) c.in_ok-n.was c.if-n-toks.true
 
 pub returns-in_err-n : goal.returns-in_err-n
 returns-in_err-n c =
-    rw (raised c.from_residual.ensures.1) (text-fault _ _ _ (c.model.ensures.follows, c.model.ensures.parsed) c.in_err-n.was)
+    rw (raised c.from_residual.ensures.1) (text-fault _ _ _ (c.model_lent.ensures.follows, c.model_lent.ensures.parsed) c.in_err-n.was)
 
 pub returns : goal.returns
 returns c =
-    text-fits _ _ _ (c.model.ensures.follows, c.model.ensures.parsed) c.in_ok-n.was c.if-n-toks.false
+    text-fits _ _ _ (c.model_lent.ensures.follows, c.model_lent.ensures.parsed) c.in_ok-n.was c.if-n-toks.false

@@ -33,6 +33,15 @@ pub fn closed_lent(left: &Left, nodes: &mut [u64]) -> Roots
     Ok((n + 1, root, left.root))
 }
 
+// The same of a Left by value.
+pub fn closed(left: Left, nodes: &mut [u64]) -> Roots
+    ensures follows { Follows left.entry.toks.now left.entry.at (a_rate ++ Want kind.close_curly ∷ []) (place_counted result) }
+    ensures tallied { Tallied flat_closed (λ v. 0) (λ t v. Table.Rate t (rate_at v left.entry.at)) left.entry.toks.now nodes.old nodes.new left.entry.at (left.entry.root + 1) left.entry.root result }
+    ensures spare { Spare left.entry.at (left.entry.root + 1) left.entry.root result }
+{
+    closed_lent(&left, nodes)
+}
+
 // The comma after the action that is on the left, a rate and the `}`.
 pub fn rated_lent(left: &Left, nodes: &mut [u64]) -> Roots
     ensures follows { Follows left.now.toks.now left.now.at (the_rate ++ Want kind.close_curly ∷ []) (place_counted result) }
@@ -44,6 +53,15 @@ pub fn rated_lent(left: &Left, nodes: &mut [u64]) -> Roots
         return Err(left.at);
     }
     closed_lent(&spot.after(left.at + 1, left.root), nodes)
+}
+
+// The same of a Left by value.
+pub fn rated(left: Left, nodes: &mut [u64]) -> Roots
+    ensures follows { Follows left.entry.toks.now left.entry.at (the_rate ++ Want kind.close_curly ∷ []) (place_counted result) }
+    ensures rating { Rating left.entry.toks.now nodes.old nodes.new left.entry.at left.entry.root result }
+    ensures spare { Spare (left.entry.at + 1) (left.entry.root + 1) left.entry.root result }
+{
+    rated_lent(&left, nodes)
 }
 
 // What follows a channel's first two items, which are at `first` and on the left, up to the `}`; they left a token without a node.
@@ -58,6 +76,16 @@ pub fn second_lent(left: &Left, nodes: &mut [u64], first: usize) -> Roots
     rated_lent(&left.spot().after(m, deed), nodes)
 }
 
+// The same of a Left by value.
+pub fn second(left: Left, nodes: &mut [u64], first: usize) -> Roots
+    requires spare { left.root + 1 < left.at }
+    requires first_le_root { first ≤ left.root }
+    ensures follows { Follows left.entry.toks.now left.entry.at (ThirdItem ∷ the_deed ++ Want kind.close_curly ∷ []) (place_counted result) }
+    ensures seconds { Seconds left.entry.toks.now nodes.old nodes.new left.entry.at first left.entry.root result }
+{
+    second_lent(&left, nodes, first)
+}
+
 // What follows an item's first atom, which is on the left.
 pub fn rest_lent(left: &Left, nodes: &mut [u64]) -> Read
     ensures follows { Follows left.now.toks.now left.now.at (Factors' ∷ Terms' ∷ []) (place result) }
@@ -65,6 +93,14 @@ pub fn rest_lent(left: &Left, nodes: &mut [u64]) -> Read
 {
     let (n, r) = expression::factors(left.toks, left.at, nodes, left.root)?;
     expression::terms(left.toks, n, nodes, r)
+}
+
+// The same of a Left by value.
+pub fn rest(left: Left, nodes: &mut [u64]) -> Read
+    ensures follows { Follows left.entry.toks.now left.entry.at (Factors' ∷ Terms' ∷ []) (place result) }
+    ensures extended { Extended flat_rest (λ x p. rest_at x p left.entry.at) Table.Expr Table.Expr left.entry.toks.now nodes.old nodes.new left.entry.at left.entry.root result }
+{
+    rest_lent(&left, nodes)
 }
 
 // After a name and a comma, what may be a rate's number or name, or an item's, perhaps times an atom: the last of its tokens is `digits`, its node is of the one kind or the other.
@@ -106,6 +142,21 @@ pub fn undecided_lent(
     second_lent(&spot.after(m, mid), nodes, spot.used)
 }
 
+// The same of a Named by value.
+pub fn undecided(
+    named: Named<{ b',' }>,
+    nodes: &mut [u64],
+    digits: usize,
+    rate: u8,
+    item: u8,
+) -> Roots
+    requires either { Either named.spot.toks.now (named.spot.at + 1 + 1) digits rate item }
+    ensures follows { Follows named.entry.spot.toks.now (digits + 1) (LoneScale ∷ Want kind.close_curly ∷ []) (place_counted result) }
+    ensures inside { Inside named.entry.spot.toks.now nodes.old nodes.new named.entry.spot.at named.entry.spot.used result }
+{
+    undecided_lent(&named, nodes, digits, rate, item)
+}
+
 // A name and a comma, and what follows: a rate, or a channel's second item.
 pub fn lone_lent(named: &Named<{ b',' }>, nodes: &mut [u64]) -> Roots
     ensures follows { Follows named.now.spot.toks.now named.now.spot.at (Braced ∷ Want kind.close_curly ∷ []) (place_counted result) }
@@ -127,6 +178,14 @@ pub fn lone_lent(named: &Named<{ b',' }>, nodes: &mut [u64]) -> Roots
             second_lent(&spot.after(m, mid), nodes, spot.used)
         }
     }
+}
+
+// The same of a Named by value.
+pub fn lone(named: Named<{ b',' }>, nodes: &mut [u64]) -> Roots
+    ensures follows { Follows named.entry.spot.toks.now named.entry.spot.at (Braced ∷ Want kind.close_curly ∷ []) (place_counted result) }
+    ensures inside { Inside named.entry.spot.toks.now nodes.old nodes.new named.entry.spot.at named.entry.spot.used result }
+{
+    lone_lent(&named, nodes)
 }
 
 // A name, a comma and a `-`, and what follows.
@@ -154,6 +213,15 @@ pub fn lone_minus_lent(named: &Named<{ b',' }>, nodes: &mut [u64]) -> Roots
     }
 }
 
+// The same of a Named by value.
+pub fn lone_minus(named: Named<{ b',' }>, nodes: &mut [u64]) -> Roots
+    requires at_value_2 { get_or named.spot.toks.now (named.spot.at + 1 + 1) 0 ≡ kind.minus }
+    ensures follows { Follows named.entry.spot.toks.now named.entry.spot.at (Braced ∷ Want kind.close_curly ∷ []) (place_counted result) }
+    ensures inside { Inside named.entry.spot.toks.now nodes.old nodes.new named.entry.spot.at named.entry.spot.used result }
+{
+    lone_minus_lent(&named, nodes)
+}
+
 // Action, comma, rate and `}`.
 pub fn braced_lent(spot: &Spot, nodes: &mut [u64]) -> Roots
     ensures follows { Follows spot.now.toks.now spot.now.at (Braced ∷ Want kind.close_curly ∷ []) (place_counted result) }
@@ -177,4 +245,12 @@ pub fn braced_lent(spot: &Spot, nodes: &mut [u64]) -> Roots
             rated_lent(&spot.after(n, root), nodes)
         }
     }
+}
+
+// The same of a Spot by value.
+pub fn braced(spot: Spot, nodes: &mut [u64]) -> Roots
+    ensures follows { Follows spot.entry.toks.now spot.entry.at (Braced ∷ Want kind.close_curly ∷ []) (place_counted result) }
+    ensures inside { Inside spot.entry.toks.now nodes.old nodes.new spot.entry.at spot.entry.used result }
+{
+    braced_lent(&spot, nodes)
 }

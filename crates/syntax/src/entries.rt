@@ -4,6 +4,7 @@ ghost use Rattle.tree.specs.Reading.{place, Ready, Parsed};
 ghost use Rattle.syntax.specs.Entries as entries;
 ghost use Rattle.syntax.specs.Entries.{an_entry, the_entries, flat_entry, flat_entries, Holds, HoldsAll};
 
+use crate::spot::Spot;
 use crate::{expression, set};
 use tree::{NodeKind, Read};
 
@@ -12,16 +13,28 @@ pub trait Entry {
     ghost which: { entries.Entry };
 
     // One of them.
+    fn read(spot: Spot, nodes: &mut [u64]) -> Read
+        ensures follows { Follows spot.entry.toks.now spot.entry.at (an_entry which) (place result) }
+        ensures parsed { Parsed (flat_entry which) (λ t x. Holds which t x spot.entry.at) spot.entry.toks.now nodes.old nodes.new spot.entry.at spot.entry.used result };
+
+    // The same of the three as words.
     fn read_at(toks: &[u8], at: usize, nodes: &mut [u64], used: usize) -> Read
         requires { Ready toks.now at used }
         ensures follows { Follows toks.now at (an_entry which) (place result) }
-        ensures parsed { Parsed (flat_entry which) (λ t x. Holds which t x at) toks.now nodes.old nodes.new at used result };
+        ensures parsed { Parsed (flat_entry which) (λ t x. Holds which t x at) toks.now nodes.old nodes.new at used result }
+    {
+        Self::read(Spot { toks, at, used }, nodes)
+    }
 }
 
 pub struct Value;
 
 impl Entry for Value {
     ghost which = { entries.value };
+
+    fn read(spot: Spot, nodes: &mut [u64]) -> Read {
+        expression::expr(spot.toks, spot.at, nodes, spot.used)
+    }
 
     fn read_at(toks: &[u8], at: usize, nodes: &mut [u64], used: usize) -> Read {
         expression::expr(toks, at, nodes, used)
@@ -32,6 +45,10 @@ pub struct Set;
 
 impl Entry for Set {
     ghost which = { entries.set };
+
+    fn read(spot: Spot, nodes: &mut [u64]) -> Read {
+        set::set(spot.toks, spot.at, nodes, spot.used)
+    }
 
     fn read_at(toks: &[u8], at: usize, nodes: &mut [u64], used: usize) -> Read {
         set::set(toks, at, nodes, used)
@@ -62,4 +79,12 @@ pub fn entries_at<E: Entry>(toks: &[u8], at: usize, nodes: &mut [u64], used: usi
     let root = r + 1;
     tree::pair(nodes, root, NodeKind::PAIR, left);
     Ok((m + 1, root))
+}
+
+// The same of a Spot by value.
+pub fn entries<E: Entry>(spot: Spot, nodes: &mut [u64]) -> Read
+    ensures follows { Follows spot.entry.toks.now spot.entry.at (the_entries E.which) (place result) }
+    ensures parsed { Parsed (flat_entries E.which) (λ t x. HoldsAll E.which t x spot.entry.at) spot.entry.toks.now nodes.old nodes.new spot.entry.at spot.entry.used result }
+{
+    entries_at::<E>(spot.toks, spot.at, nodes, spot.used)
 }

@@ -57,6 +57,15 @@ pub fn definition_lent(named: &Named<{ b'[' }>, nodes: &mut [u64], sums: usize) 
     Ok((m + 1, root, s))
 }
 
+// The same of a Named by value.
+pub fn definition(named: Named<{ b'[' }>, nodes: &mut [u64], sums: usize) -> Counted
+    requires sums_le_name { sums ≤ named.spot.at }
+    ensures follows { Follows named.entry.spot.toks.now (named.entry.spot.at + 2) in_definition (place_counted result) }
+    ensures tallied { Tallied written_definition count_definition (λ t d. Definition t d named.entry.spot.at sums) named.entry.spot.toks.now nodes.old nodes.new (named.entry.spot.at + 1) named.entry.spot.used sums result }
+{
+    definition_lent(&named, nodes, sums)
+}
+
 // Whether a definition starts here, and not the system line.
 #[tactic(auto, unfolding(crate::specs::Line::defining))]
 pub fn defines(point: Point) -> bool
@@ -91,6 +100,15 @@ pub fn definitions_lent(named: &Named<{ b'[' }>, nodes: &mut [u64], sums: usize)
     let root = r + 1;
     tree::pair(nodes, root, kind, left);
     Ok((m, root))
+}
+
+// The same of a Named by value.
+pub fn definitions(named: Named<{ b'[' }>, nodes: &mut [u64], sums: usize) -> Read
+    requires sums_le_name { sums ≤ named.spot.at }
+    ensures follows { Follows named.entry.spot.toks.now (named.entry.spot.at + 2) (in_definition ++ NextLine ∷ []) (place result) }
+    ensures parsed { Parsed flat_definitions (λ t d. Table.Definitions t (definitions_at d named.entry.spot.at sums)) named.entry.spot.toks.now nodes.old nodes.new named.entry.spot.at named.entry.spot.used result }
+{
+    definitions_lent(&named, nodes, sums)
 }
 
 // Whole numbers parted by commas and the `]` after them, with their count. Beside `process::call_lent` stands why this and `args` there are no one function.
@@ -134,6 +152,16 @@ pub fn starts_lent(spot: &Spot, nodes: &mut [u64], name: usize, base: u8) -> Rea
     Ok((m, root))
 }
 
+// The same of a Spot by value.
+pub fn starts(spot: Spot, nodes: &mut [u64], name: usize, base: u8) -> Read
+    requires name_before { name ≤ spot.at }
+    requires base_bound { base < 255 }
+    ensures follows { Follows spot.entry.toks.now spot.entry.at the_starts (place result) }
+    ensures parsed { Parsed flat_starts (λ t s. Started t base name (starts_at s spot.entry.at)) spot.entry.toks.now nodes.old nodes.new spot.entry.at spot.entry.used result }
+{
+    starts_lent(&spot, nodes, name, base)
+}
+
 // An item of the system line.
 pub fn start_lent(spot: &Spot, nodes: &mut [u64]) -> Read
     ensures follows { Follows spot.now.toks.now spot.now.at (Start' ∷ []) (place result) }
@@ -162,6 +190,14 @@ pub fn start_lent(spot: &Spot, nodes: &mut [u64]) -> Read
     )
 }
 
+// The same of a Spot by value.
+pub fn start(spot: Spot, nodes: &mut [u64]) -> Read
+    ensures follows { Follows spot.entry.toks.now spot.entry.at (Start' ∷ []) (place result) }
+    ensures parsed { Parsed flat_start (λ t s. Table.Start t (start_at s spot.entry.at)) spot.entry.toks.now nodes.old nodes.new spot.entry.at spot.entry.used result }
+{
+    start_lent(&spot, nodes)
+}
+
 // The items of the system line, with its `;`. Beside `process::items_lent` stands why this and the reader there are no one function.
 pub fn system_lent(spot: &Spot, nodes: &mut [u64]) -> Read
     ensures follows { Follows spot.now.toks.now spot.now.at (Start' ∷ SystemEnd ∷ []) (place result) }
@@ -179,6 +215,14 @@ pub fn system_lent(spot: &Spot, nodes: &mut [u64]) -> Read
     let root = r + 1;
     tree::pair(nodes, root, NodeKind::SYSTEM, left);
     Ok((m, root))
+}
+
+// The same of a Spot by value.
+pub fn system(spot: Spot, nodes: &mut [u64]) -> Read
+    ensures follows { Follows spot.entry.toks.now spot.entry.at (Start' ∷ SystemEnd ∷ []) (place result) }
+    ensures parsed { Parsed flat_system (λ t s. Table.System t (system_at s spot.entry.at)) spot.entry.toks.now nodes.old nodes.new spot.entry.at spot.entry.used result }
+{
+    system_lent(&spot, nodes)
 }
 
 // Variables, definitions and system line.
@@ -201,6 +245,14 @@ pub fn model_lent(spot: &Spot, nodes: &mut [u64]) -> Read
     variable_lent(&Named { spot: *spot }, nodes)
 }
 
+// The same of a Spot by value.
+pub fn model(spot: Spot, nodes: &mut [u64]) -> Read
+    ensures follows { Follows spot.entry.toks.now spot.entry.at (Line ∷ []) (place result) }
+    ensures parsed { Parsed flat_model (λ t m. Table.Model t (model_at m spot.entry.at)) spot.entry.toks.now nodes.old nodes.new spot.entry.at spot.entry.used result }
+{
+    model_lent(&spot, nodes)
+}
+
 // The variable named here, and what follows it.
 #[cycle(model_lent_variable_lent)]
 pub fn variable_lent(named: &Named<{ b'=' }>, nodes: &mut [u64]) -> Read
@@ -216,6 +268,14 @@ pub fn variable_lent(named: &Named<{ b'=' }>, nodes: &mut [u64]) -> Read
     let root = r + 1;
     tree::node(nodes, root, NodeKind::VARIABLE, spot.at, left, 0);
     Ok((m, root))
+}
+
+// The same of a Named by value.
+pub fn variable(named: Named<{ b'=' }>, nodes: &mut [u64]) -> Read
+    ensures follows { Follows named.entry.spot.toks.now (named.entry.spot.at + 2) (Number' ∷ Want kind.semicolon ∷ Line ∷ []) (place result) }
+    ensures parsed { Parsed flat_model (λ t m. Table.Model t (model_at m named.entry.spot.at)) named.entry.spot.toks.now nodes.old nodes.new named.entry.spot.at named.entry.spot.used result }
+{
+    variable_lent(&named, nodes)
 }
 
 // Reads a text's tokens into the table: the root of its tree, or the number of the token that doesn't fit.

@@ -29,6 +29,15 @@ pub fn prefix_lent(site: &Site<1>, nodes: &mut [u64]) -> Counted
     offer_lent(site, nodes, site.spot.at)
 }
 
+// The same of a Site by value.
+pub fn prefix(site: Site<1>, nodes: &mut [u64]) -> Counted
+    ensures follows { Follows site.entry.spot.toks.now site.entry.spot.at (a_prefix) (place_counted result) }
+    ensures tallied { Tallied flat_prefix sums_prefix (λ t p. Table.Branch t (branch_at p site.entry.spot.at site.entry.sums)) site.entry.spot.toks.now nodes.old nodes.new site.entry.spot.at site.entry.spot.used site.entry.sums result }
+    ensures spare { Spare site.entry.spot.at site.entry.spot.used site.entry.sums result }
+{
+    prefix_lent(&site, nodes)
+}
+
 // A prefix with a gate, from its `[` on.
 #[cycle(branches_lent_cont_lent_gated_lent_group_lent_item_lent_items_lent_offer_lent_prefix_lent_sum_lent)]
 pub fn gated_lent(site: &Site<1>, nodes: &mut [u64]) -> Counted
@@ -54,6 +63,16 @@ pub fn gated_lent(site: &Site<1>, nodes: &mut [u64]) -> Counted
     let root = r + 1;
     tree::node(nodes, root, NodeKind::GATE, spot.at, left, 0);
     Ok((m, root, s))
+}
+
+// The same of a Site by value.
+pub fn gated(site: Site<1>, nodes: &mut [u64]) -> Counted
+    requires at_value { get_or site.spot.toks.now site.spot.at 0 ≡ kind.open_square }
+    ensures follows { Follows site.entry.spot.toks.now site.entry.spot.at (a_prefix) (place_counted result) }
+    ensures tallied { Tallied flat_prefix sums_prefix (λ t p. Table.Branch t (branch_at p site.entry.spot.at site.entry.sums)) site.entry.spot.toks.now nodes.old nodes.new site.entry.spot.at site.entry.spot.used site.entry.sums result }
+    ensures spare { Spare site.entry.spot.at site.entry.spot.used site.entry.sums result }
+{
+    gated_lent(&site, nodes)
 }
 
 // Action and rate in their braces, and the continuation, if any; `first` is the first token of the prefix.
@@ -84,6 +103,16 @@ pub fn offer_lent(site: &Site<1>, nodes: &mut [u64], first: usize) -> Counted
     Ok((e, root, s))
 }
 
+// The same of a Site by value.
+pub fn offer(site: Site<1>, nodes: &mut [u64], first: usize) -> Counted
+    requires first_le_at { first ≤ site.spot.at }
+    ensures follows { Follows site.entry.spot.toks.now site.entry.spot.at (Want kind.open_curly ∷ in_braces) (place_counted result) }
+    ensures tallied { Tallied flat_offer sums_offer (λ t o. Table.Branch t (offer_at first o site.entry.spot.at site.entry.sums)) site.entry.spot.toks.now nodes.old nodes.new site.entry.spot.at site.entry.spot.used site.entry.sums result }
+    ensures spare { Spare site.entry.spot.at site.entry.spot.used site.entry.sums result }
+{
+    offer_lent(&site, nodes, first)
+}
+
 // A continuation: a group, a call, or a prefix as a sum of its own.
 #[cycle(branches_lent_cont_lent_gated_lent_group_lent_item_lent_items_lent_offer_lent_prefix_lent_sum_lent)]
 pub fn cont_lent(site: &Site<0>, nodes: &mut [u64]) -> Counted
@@ -107,6 +136,14 @@ pub fn cont_lent(site: &Site<0>, nodes: &mut [u64]) -> Counted
     }
 }
 
+// The same of a Site by value.
+pub fn cont(site: Site<0>, nodes: &mut [u64]) -> Counted
+    ensures follows { Follows site.entry.spot.toks.now site.entry.spot.at (Cont' ∷ []) (place_counted result) }
+    ensures tallied { Tallied flat_cont sums_cont (λ t c. Table.Cont t (cont_at c site.entry.spot.at site.entry.sums)) site.entry.spot.toks.now nodes.old nodes.new site.entry.spot.at site.entry.spot.used site.entry.sums result }
+{
+    cont_lent(&site, nodes)
+}
+
 // A call, from its name on.
 // One generic function for this and `line::starts_lent`, and one for `args` and `line::wholes`, would be longer than the four: a trait with a reader and a kind, and sixteen definitions of what each reads.
 pub fn call_lent(spot: &Spot, nodes: &mut [u64], sums: usize) -> Counted
@@ -127,6 +164,15 @@ pub fn call_lent(spot: &Spot, nodes: &mut [u64], sums: usize) -> Counted
     let root = r + 1;
     tree::node(nodes, root, NodeKind::CALL_WITH, spot.at, 0, count);
     Ok((m, root, sums))
+}
+
+// The same of a Spot by value.
+pub fn call(spot: Spot, nodes: &mut [u64], sums: usize) -> Counted
+    requires at_value { get_or spot.toks.now spot.at 0 ≡ kind.name }
+    ensures follows { Follows spot.entry.toks.now (spot.entry.at + 1) (the_args) (place_counted result) }
+    ensures tallied { Tallied flat_call (λ a. 0) (λ t a. Table.Cont t (call_at a spot.entry.at)) spot.entry.toks.now nodes.old nodes.new spot.entry.at spot.entry.used sums result }
+{
+    call_lent(&spot, nodes, sums)
 }
 
 // Values parted by commas and the `]` after them, with their count.
@@ -166,6 +212,15 @@ pub fn group_lent(site: &Site<0>, nodes: &mut [u64]) -> Counted
     Ok((n, root, s))
 }
 
+// The same of a Site by value.
+pub fn group(site: Site<0>, nodes: &mut [u64]) -> Counted
+    requires at_value { get_or site.spot.toks.now site.spot.at 0 ≡ kind.open_round }
+    ensures follows { Follows site.entry.spot.toks.now (site.entry.spot.at + 1) (Item' ∷ Items' ∷ []) (place_counted result) }
+    ensures tallied { Tallied flat_group sums_item_list (λ t g. Table.Cont t (group_at g site.entry.spot.at site.entry.sums)) site.entry.spot.toks.now nodes.old nodes.new site.entry.spot.at site.entry.spot.used site.entry.sums result }
+{
+    group_lent(&site, nodes)
+}
+
 // The items of a group and its `)`.
 // Not one generic function with `line::system_lent`, nor `branches_lent` with `body_lent`: the borrow checker covers no cycle of calls that goes through a trait's method.
 #[cycle(branches_lent_cont_lent_gated_lent_group_lent_item_lent_items_lent_offer_lent_prefix_lent_sum_lent)]
@@ -192,6 +247,14 @@ pub fn items_lent(site: &Site<0>, nodes: &mut [u64]) -> Counted
     Ok((m, root, q))
 }
 
+// The same of a Site by value.
+pub fn items(site: Site<0>, nodes: &mut [u64]) -> Counted
+    ensures follows { Follows site.entry.spot.toks.now site.entry.spot.at (Item' ∷ Items' ∷ []) (place_counted result) }
+    ensures tallied { Tallied flat_item_list sums_item_list (λ t g. Table.Conts t (item_list_at g site.entry.spot.at site.entry.sums)) site.entry.spot.toks.now nodes.old nodes.new site.entry.spot.at site.entry.spot.used site.entry.sums result }
+{
+    items_lent(&site, nodes)
+}
+
 // An item of a group: a group, a call or a sum.
 #[cycle(branches_lent_cont_lent_gated_lent_group_lent_item_lent_items_lent_offer_lent_prefix_lent_sum_lent)]
 pub fn item_lent(site: &Site<0>, nodes: &mut [u64]) -> Counted
@@ -203,6 +266,14 @@ pub fn item_lent(site: &Site<0>, nodes: &mut [u64]) -> Counted
         Kind::NAME => call_lent(&site.spot, nodes, site.sums),
         _ => sum_lent(site, nodes),
     }
+}
+
+// The same of a Site by value.
+pub fn item(site: Site<0>, nodes: &mut [u64]) -> Counted
+    ensures follows { Follows site.entry.spot.toks.now site.entry.spot.at (Item' ∷ []) (place_counted result) }
+    ensures tallied { Tallied flat_item sums_item (λ t i. Table.Cont t (item_at i site.entry.spot.at site.entry.sums)) site.entry.spot.toks.now nodes.old nodes.new site.entry.spot.at site.entry.spot.used site.entry.sums result }
+{
+    item_lent(&site, nodes)
 }
 
 // Prefixes joined by `+`, with their number.
@@ -220,6 +291,14 @@ pub fn sum_lent(site: &Site<0>, nodes: &mut [u64]) -> Counted
     let root = r + 1;
     tree::node(nodes, root, NodeKind::SUM, sums, 0, spot.at);
     Ok((n, root, s))
+}
+
+// The same of a Site by value.
+pub fn sum(site: Site<0>, nodes: &mut [u64]) -> Counted
+    ensures follows { Follows site.entry.spot.toks.now site.entry.spot.at (a_sum) (place_counted result) }
+    ensures tallied { Tallied written_sum count_sum (λ t x. Table.Sum t (sum_at x.0 x.1 site.entry.spot.at site.entry.sums)) site.entry.spot.toks.now nodes.old nodes.new site.entry.spot.at site.entry.spot.used site.entry.sums result }
+{
+    sum_lent(&site, nodes)
 }
 
 // Prefixes joined by `+`.
@@ -244,6 +323,15 @@ pub fn branches_lent(site: &Site<1>, nodes: &mut [u64]) -> Counted
     Ok((m, root, q))
 }
 
+// The same of a Site by value.
+pub fn branches(site: Site<1>, nodes: &mut [u64]) -> Counted
+    ensures follows { Follows site.entry.spot.toks.now site.entry.spot.at (a_sum) (place_counted result) }
+    ensures tallied { Tallied written_sum sums_branches (λ t x. Table.Branches t (branches_from x site.entry.spot.at site.entry.sums)) site.entry.spot.toks.now nodes.old nodes.new site.entry.spot.at site.entry.spot.used site.entry.sums result }
+    ensures spare { Spare site.entry.spot.at site.entry.spot.used site.entry.sums result }
+{
+    branches_lent(&site, nodes)
+}
+
 // A definition's body: sums joined by `||`.
 pub fn body_lent(site: &Site<0>, nodes: &mut [u64]) -> Counted
     ensures follows { Follows site.now.spot.toks.now site.now.spot.at (a_body) (place_counted result) }
@@ -262,4 +350,12 @@ pub fn body_lent(site: &Site<0>, nodes: &mut [u64]) -> Counted
     let root = r + 1;
     tree::pair(nodes, root, NodeKind::BESIDE, left);
     Ok((m, root, q))
+}
+
+// The same of a Site by value.
+pub fn body(site: Site<0>, nodes: &mut [u64]) -> Counted
+    ensures follows { Follows site.entry.spot.toks.now site.entry.spot.at (a_body) (place_counted result) }
+    ensures tallied { Tallied flat_body sums_body (λ t b. Table.Sums t (body_at b site.entry.spot.at site.entry.sums)) site.entry.spot.toks.now nodes.old nodes.new site.entry.spot.at site.entry.spot.used site.entry.sums result }
+{
+    body_lent(&site, nodes)
 }

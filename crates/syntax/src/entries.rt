@@ -17,7 +17,7 @@ pub trait Entry {
         ensures follows { Follows spot.entry.toks.now spot.entry.at (an_entry which) (place result) }
         ensures parsed { Parsed (flat_entry which) (λ t x. Holds which t x spot.entry.at) spot.entry.toks.now nodes.old nodes.new spot.entry.at spot.entry.used result };
 
-    // The same of the three as words.
+    // The same of what a Spot says, as words.
     fn read_at(toks: &[u8], at: usize, nodes: &mut [u64], used: usize) -> Read
         requires { Ready toks.now at used }
         ensures follows { Follows toks.now at (an_entry which) (place result) }

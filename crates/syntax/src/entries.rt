@@ -8,26 +8,35 @@ use crate::spot::Spot;
 use crate::{expression, set};
 use tree::{NodeKind, Read};
 
-// What may stand in the brackets.
-pub trait Entry {
+// What may stand in the brackets, read from words.
+pub trait EntryAt {
     ghost which: { entries.Entry };
 
     // One of them.
-    fn read(spot: Spot, nodes: &mut [u64]) -> Read
-        ensures follows { Follows spot.entry.toks.now spot.entry.at (an_entry which) (place result) }
-        ensures parsed { Parsed (flat_entry which) (λ t x. Holds which t x spot.entry.at) spot.entry.toks.now nodes.old nodes.new spot.entry.at spot.entry.used result };
-
-    // The same of what a Spot says, as words.
     fn read_at(toks: &[u8], at: usize, nodes: &mut [u64], used: usize) -> Read
         requires { Ready toks.now at used }
         ensures follows { Follows toks.now at (an_entry which) (place result) }
-        ensures parsed { Parsed (flat_entry which) (λ t x. Holds which t x at) toks.now nodes.old nodes.new at used result }
-    {
-        Self::read(Spot { toks, at, used }, nodes)
-    }
+        ensures parsed { Parsed (flat_entry which) (λ t x. Holds which t x at) toks.now nodes.old nodes.new at used result };
+}
+
+// The same, read from a Spot.
+pub trait Entry {
+    ghost which: { entries.Entry };
+
+    fn read(spot: Spot, nodes: &mut [u64]) -> Read
+        ensures follows { Follows spot.entry.toks.now spot.entry.at (an_entry which) (place result) }
+        ensures parsed { Parsed (flat_entry which) (λ t x. Holds which t x spot.entry.at) spot.entry.toks.now nodes.old nodes.new spot.entry.at spot.entry.used result };
 }
 
 pub struct Value;
+
+impl EntryAt for Value {
+    ghost which = { entries.value };
+
+    fn read_at(toks: &[u8], at: usize, nodes: &mut [u64], used: usize) -> Read {
+        expression::expr(toks, at, nodes, used)
+    }
+}
 
 impl Entry for Value {
     ghost which = { entries.value };
@@ -35,13 +44,17 @@ impl Entry for Value {
     fn read(spot: Spot, nodes: &mut [u64]) -> Read {
         expression::expr(spot.toks, spot.at, nodes, spot.used)
     }
-
-    fn read_at(toks: &[u8], at: usize, nodes: &mut [u64], used: usize) -> Read {
-        expression::expr(toks, at, nodes, used)
-    }
 }
 
 pub struct Set;
+
+impl EntryAt for Set {
+    ghost which = { entries.set };
+
+    fn read_at(toks: &[u8], at: usize, nodes: &mut [u64], used: usize) -> Read {
+        set::set(toks, at, nodes, used)
+    }
+}
 
 impl Entry for Set {
     ghost which = { entries.set };
@@ -49,14 +62,10 @@ impl Entry for Set {
     fn read(spot: Spot, nodes: &mut [u64]) -> Read {
         set::set(spot.toks, spot.at, nodes, spot.used)
     }
-
-    fn read_at(toks: &[u8], at: usize, nodes: &mut [u64], used: usize) -> Read {
-        set::set(toks, at, nodes, used)
-    }
 }
 
 // One or two entries in square brackets.
-pub fn entries_at<E: Entry>(toks: &[u8], at: usize, nodes: &mut [u64], used: usize) -> Read
+pub fn entries_at<E: EntryAt>(toks: &[u8], at: usize, nodes: &mut [u64], used: usize) -> Read
     requires { Ready toks.now at used }
     ensures follows { Follows toks.now at (the_entries E.which) (place result) }
     ensures parsed { Parsed (flat_entries E.which) (λ t x. HoldsAll E.which t x at) toks.now nodes.old nodes.new at used result }
@@ -81,10 +90,27 @@ pub fn entries_at<E: Entry>(toks: &[u8], at: usize, nodes: &mut [u64], used: usi
     Ok((m + 1, root))
 }
 
-// The same of a Spot by value.
+// The same of a Spot by value. A body of its own: what reads from a Spot need not read from words.
 pub fn entries<E: Entry>(spot: Spot, nodes: &mut [u64]) -> Read
     ensures follows { Follows spot.entry.toks.now spot.entry.at (the_entries E.which) (place result) }
     ensures parsed { Parsed (flat_entries E.which) (λ t x. HoldsAll E.which t x spot.entry.at) spot.entry.toks.now nodes.old nodes.new spot.entry.at spot.entry.used result }
 {
-    entries_at::<E>(spot.toks, spot.at, nodes, spot.used)
+    if spot.peek() != b'[' {
+        return Err(spot.at);
+    }
+    let (n, first) = E::read(spot.next(), nodes)?;
+    let t = token::peek(spot.toks, n);
+    if t == b']' {
+        return Ok((n + 1, first));
+    }
+    if t != b',' {
+        return Err(n);
+    }
+    let (m, r) = E::read(spot.to(n + 1, first + 1), nodes)?;
+    if token::peek(spot.toks, m) != b']' {
+        return Err(m);
+    }
+    let root = r + 1;
+    tree::pair(nodes, root, NodeKind::PAIR, first);
+    Ok((m + 1, root))
 }

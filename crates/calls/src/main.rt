@@ -21,7 +21,7 @@ mod rows;
 
 use arrayvec::ArrayVec;
 use lines::line::Line;
-use lines::script::{Broken, Part, Script, Taken};
+use lines::script::{Broken, Part, Pushed, Script};
 use script::Row;
 use std::fs::File;
 use std::io::{BufWriter, Read, Write};
@@ -532,9 +532,9 @@ impl Bench {
     fn take_all(&mut self, out: &mut impl Write, bytes: &[u8]) -> io::Result<bool> {
         for &b in bytes {
             self.keep(b);
-            match self.script.take(b) {
-                Ok(Taken::Goes) => (),
-                Ok(Taken::Asks(asked)) => self.ask(out, asked)?,
+            match self.script.push(b) {
+                Ok(Pushed::Goes) => (),
+                Ok(Pushed::Asks(asked)) => self.ask(out, asked)?,
                 Err(broken) => {
                     put_broken(out, broken)?;
                     return Ok(true);

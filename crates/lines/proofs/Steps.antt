@@ -9,12 +9,12 @@ use Rattle.lines.specs.declared.line.Line.TheVariants.{Open, Steady, List as Lis
 use Rattle.lines.specs.declared.line.Reading.{Reading}
 use Rattle.lines.specs.declared.script.Part.TheVariants.{InLine, InText}
 use Rattle.lines.specs.declared.script.Script.{Script}
-use Rattle.lines.specs.declared.script.Taken.{Taken}
+use Rattle.lines.specs.declared.script.Pushed.{Pushed}
 use Rattle.lines.specs.Limit.{limit}
 use Rattle.lines.specs.Two.{run}
 use Rattle.lines.specs.Line.{line_of, empty, rest_of, packed, head_of, after_of, further_of, kept, Reads}
 use Rattle.lines.proofs.Heads.{none_read, some_read}
-use Rattle.lines.specs.Script.{breaks, number_after, is_short, text_of, Items, LineBegun, TextBegun, Stands, Misplaced, Takes, Cut, next, fresh, ended}
+use Rattle.lines.specs.Script.{breaks, number_after, is_short, text_of, Items, LineBegun, TextBegun, Stands, Misplaced, Pushes, Cut, next, fresh, ended}
 
 -- ---- lines are counted
 breaks-append : (s t : List ℕ) → breaks (s ++ t) ≡ breaks s + breaks t
@@ -113,7 +113,7 @@ module _ {s : List ℕ} {qs : List Line} {from : ℕ} {r : Reading} (x : LineBeg
       }
 
   -- by what the line says
-  ends_so : (l : Line) → b ≡ line_feed → line_of x.line ≡ Some l → Takes s qs b (Ok (ended from l).0) (ended from l).1
+  ends_so : (l : Line) → b ≡ line_feed → line_of x.line ≡ Some l → Pushes s qs b (Ok (ended from l).0) (ended from l).1
   ends_so (Open n) e h = line-open e h refl
   ends_so (Steady n) e h = line-open e h refl
   ends_so Listing e h = line-short e h refl
@@ -133,8 +133,8 @@ module _ {s : List ℕ} {qs : List Line} {from : ℕ} {r : Reading} (x : LineBeg
   ends_so (Begin d n) e h = line-short e h refl
   ends_so (Carry n) e h = line-short e h refl
 
-  pub line-ends : {l : Line} {y : Taken} {z : Script} → b ≡ line_feed → line_of x.line ≡ Some l → (y, z) ≡ ended from l → Takes s qs b (Ok y) z
-  line-ends {l} e h t = subst (λ (u : Taken × Script). Takes s qs b (Ok u.0) u.1) (sym t) (ends_so l e h)
+  pub line-ends : {l : Line} {y : Pushed} {z : Script} → b ≡ line_feed → line_of x.line ≡ Some l → (y, z) ≡ ended from l → Pushes s qs b (Ok y) z
+  line-ends {l} e h t = subst (λ (u : Pushed × Script). Pushes s qs b (Ok u.0) u.1) (sym t) (ends_so l e h)
 
 -- ---- in a text
 module _ {s : List ℕ} {qs : List Line} {from : ℕ} {q : Line} {n k : ℕ} (x : TextBegun s qs from q n k) (b : ℕ) where

@@ -8,6 +8,8 @@ use Rattle.lines.specs.declared.line.Reading.{Reading}
 use Rattle.lines.specs.declared.script.Part.{Part}
 use Rattle.lines.specs.declared.script.Part.TheVariants.{InLine, InText}
 use Rattle.lines.specs.declared.script.Script.{Script}
+use Rattle.lines.specs.declared.script.Pushed.{Pushed}
+use Rattle.lines.specs.declared.script.Pushed.TheVariants.{Goes as GoesOn, Asks as AsksFor}
 use Rattle.lines.specs.declared.script.Taken.{Taken}
 use Rattle.lines.specs.declared.script.Taken.TheVariants.{Goes, Asks}
 use Rattle.lines.specs.declared.script.Broken.{Broken}
@@ -110,10 +112,16 @@ pub data Misplaced (s : List ℕ) (b n : ℕ) : Type 0 where
   of-text : {qs : List Line} {q : Line} {k : ℕ} → TextBegun s qs n q k k → (b ≢ line_feed) → Misplaced s b n
 
 -- what the byte b does after s: it goes on; it ends an item, which asks for l; or it is wrong
-abbrev pub Takes : List ℕ → List Line → ℕ → Result Taken Broken → Script → Type 0
-Takes s qs b (Ok Goes) x = Stands (s ++ (b ∷ [])) qs x
-Takes s qs b (Ok (Asks l)) x = Stands (s ++ (b ∷ [])) (qs ++ (l ∷ [])) x
-Takes s qs b (Err e) x = Misplaced s b e.from
+abbrev pub Pushes : List ℕ → List Line → ℕ → Result Pushed Broken → Script → Type 0
+Pushes s qs b (Ok GoesOn) x = Stands (s ++ (b ∷ [])) qs x
+Pushes s qs b (Ok (AsksFor l)) x = Stands (s ++ (b ∷ [])) (qs ++ (l ∷ [])) x
+Pushes s qs b (Err e) x = Misplaced s b e.from
+
+-- the same, of the script after it in the result
+abbrev pub Takes : List ℕ → List Line → ℕ → Result Taken Broken → Type 0
+Takes s qs b (Ok (Goes x)) = Stands (s ++ (b ∷ [])) qs x
+Takes s qs b (Ok (Asks l x)) = Stands (s ++ (b ∷ [])) (qs ++ (l ∷ [])) x
+Takes s qs b (Err e) = Misplaced s b e.from
 
 -- s ends within the item that began with line n
 pub data Cut (s : List ℕ) (n : ℕ) : Type 0 where
@@ -136,22 +144,22 @@ abbrev pub fresh : ℕ → Script
 fresh line = record { line = line; from = line; part = InLine empty }
 
 -- the line ends that an item began with
-abbrev pub ended : ℕ → Line → Taken × Script
-ended line (Open n) = (Goes, record { line = next line; from = line; part = InText (record { asked = Open n; size = n; taken = 0 }) })
-ended line (Steady n) = (Goes, record { line = next line; from = line; part = InText (record { asked = Steady n; size = n; taken = 0 }) })
-ended line Listing = (Asks Listing, fresh (next line))
-ended line (Step d) = (Asks (Step d), fresh (next line))
-ended line State = (Asks State, fresh (next line))
-ended line Report = (Asks Report, fresh (next line))
-ended line (Save n) = (Asks (Save n), fresh (next line))
-ended line (Return n) = (Asks (Return n), fresh (next line))
-ended line (Forget n) = (Asks (Forget n), fresh (next line))
-ended line (Time d) = (Asks (Time d), fresh (next line))
-ended line (Wait d) = (Asks (Wait d), fresh (next line))
-ended line Clock = (Asks Clock, fresh (next line))
-ended line (Independent i j) = (Asks (Independent i j), fresh (next line))
-ended line (Search d n) = (Asks (Search d n), fresh (next line))
-ended line (Word w) = (Asks (Word w), fresh (next line))
-ended line (Run n) = (Asks (Run n), fresh (next line))
-ended line (Begin d n) = (Asks (Begin d n), fresh (next line))
-ended line (Carry n) = (Asks (Carry n), fresh (next line))
+abbrev pub ended : ℕ → Line → Pushed × Script
+ended line (Open n) = (GoesOn, record { line = next line; from = line; part = InText (record { asked = Open n; size = n; taken = 0 }) })
+ended line (Steady n) = (GoesOn, record { line = next line; from = line; part = InText (record { asked = Steady n; size = n; taken = 0 }) })
+ended line Listing = (AsksFor Listing, fresh (next line))
+ended line (Step d) = (AsksFor (Step d), fresh (next line))
+ended line State = (AsksFor State, fresh (next line))
+ended line Report = (AsksFor Report, fresh (next line))
+ended line (Save n) = (AsksFor (Save n), fresh (next line))
+ended line (Return n) = (AsksFor (Return n), fresh (next line))
+ended line (Forget n) = (AsksFor (Forget n), fresh (next line))
+ended line (Time d) = (AsksFor (Time d), fresh (next line))
+ended line (Wait d) = (AsksFor (Wait d), fresh (next line))
+ended line Clock = (AsksFor Clock, fresh (next line))
+ended line (Independent i j) = (AsksFor (Independent i j), fresh (next line))
+ended line (Search d n) = (AsksFor (Search d n), fresh (next line))
+ended line (Word w) = (AsksFor (Word w), fresh (next line))
+ended line (Run n) = (AsksFor (Run n), fresh (next line))
+ended line (Begin d n) = (AsksFor (Begin d n), fresh (next line))
+ended line (Carry n) = (AsksFor (Carry n), fresh (next line))

@@ -4,4 +4,6 @@
 pub mod bytes;
 pub mod line;
 pub mod script;
+#[cfg(test)]
+mod tests;
 pub mod two;

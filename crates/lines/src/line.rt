@@ -265,7 +265,7 @@ impl Reading {
     }
 
     // The line goes on with one more byte. Each number is grown from those before the byte: `early` before `head`, and `mid` and `late` before `after`.
-    pub fn with(&mut self, b: u8)
+    pub fn push(&mut self, b: u8)
         ensures { (s : List ℕ) → Reads s self.old → Reads (s ++ (b ∷ [])) self.new }
     {
         self.kept = next_kept(self.kept);
@@ -280,6 +280,15 @@ impl Reading {
         self.after = next_bytes(self.after, Head::TWO, b);
         self.further = next_bytes(self.further, Head::THREE, b);
         self.two = bytes::with_byte(self.two, b);
+    }
+
+    // The same of a line by value.
+    pub fn with(self, b: u8) -> Self
+        ensures { (s : List ℕ) → Reads s self → Reads (s ++ (b ∷ [])) result }
+    {
+        let mut reading = self;
+        reading.push(b);
+        reading
     }
 
     // What the whole line says, if it has a form.

@@ -1,7 +1,7 @@
 // A script, read byte by byte: lines, and the bytes of texts.
 ghost use Rattle.std.specs.Prelude.{◌≡◌, ℕ, List, [], ◌∷◌, ◌++◌, OnErr};
 ghost use Rattle.lines.specs.declared.line.Line.{Line as Asked};
-ghost use Rattle.lines.specs.Script.{number_after, LineBegun, Stands, Takes, Ends, next, fresh, ended};
+ghost use Rattle.lines.specs.Script.{number_after, LineBegun, Stands, Pushes, Takes, Ends, next, fresh, ended};
 
 use crate::line::{Head, Line, Reading};
 
@@ -32,9 +32,17 @@ pub struct Script {
 // What a byte does that is right: the item goes on, or it ends and asks for this.
 // Not an Option of a Line: what is promised of the two cases differs, and is said of each by its name.
 #[derive(Clone, Copy)]
-pub enum Taken {
+pub enum Pushed {
     Goes,
     Asks(Line),
+}
+
+// The same, with the script after the byte.
+// Not a Script with an Option of a Line: what is promised of the two cases differs, and is said of each by its name.
+#[derive(Clone, Copy)]
+pub enum Taken {
+    Goes(Script),
+    Asks(Line, Script),
 }
 
 // A byte is wrong, or the script ends, within an item that began with this line.
@@ -87,7 +95,7 @@ impl Script {
     }
 
     // The line ends that the item began with.
-    fn end_line(&mut self, says: Line) -> Taken
+    fn end_line(&mut self, says: Line) -> Pushed
         ensures { (result, self.new) ≡ ended self.old.from says }
     {
         let next = next_line(self.from);
@@ -99,25 +107,25 @@ impl Script {
                     size,
                     taken: 0,
                 });
-                Taken::Goes
+                Pushed::Goes
             }
             asked => {
                 *self = begin(next);
-                Taken::Asks(asked)
+                Pushed::Asks(asked)
             }
         }
     }
 
     // What the next byte does, which leaves the script as it was if it is wrong.
-    pub fn take(&mut self, b: u8) -> Result<Taken, Broken>
-        ensures takes { (s : List ℕ) (qs : List Asked) → Stands s qs self.old → Takes s qs b result self.new }
+    pub fn push(&mut self, b: u8) -> Result<Pushed, Broken>
+        ensures pushes { (s : List ℕ) (qs : List Asked) → Stands s qs self.old → Pushes s qs b result self.new }
         ensures kept { OnErr result (self.new ≡ self.old) }
     {
         match &mut self.part {
             Part::InLine(reading) => {
                 if b != b'\n' {
-                    reading.with(b);
-                    return Ok(Taken::Goes);
+                    reading.push(b);
+                    return Ok(Pushed::Goes);
                 }
                 match reading.says() {
                     Some(says) => Ok(self.end_line(says)),
@@ -128,15 +136,27 @@ impl Script {
                 if text.taken < text.size {
                     text.taken += 1;
                     self.line = line_after(self.line, b);
-                    return Ok(Taken::Goes);
+                    return Ok(Pushed::Goes);
                 }
                 if b != b'\n' {
                     return Err(Broken { from: self.from });
                 }
                 let asked = text.asked;
                 *self = begin(next_line(self.line));
-                Ok(Taken::Asks(asked))
+                Ok(Pushed::Asks(asked))
             }
+        }
+    }
+
+    // The same of a script by value.
+    pub fn take(self, b: u8) -> Result<Taken, Broken>
+        ensures { (s : List ℕ) (qs : List Asked) → Stands s qs self → Takes s qs b result }
+    {
+        let mut script = self;
+        match script.push(b) {
+            Ok(Pushed::Goes) => Ok(Taken::Goes(script)),
+            Ok(Pushed::Asks(asked)) => Ok(Taken::Asks(asked, script)),
+            Err(broken) => Err(broken),
         }
     }
 

@@ -3,7 +3,7 @@ use Rattle.std.proofs.Common.{arith}
 use Rattle.lines.specs.Line.{rest_next, mid_next, late_next, early_next}
 use Rattle.lines.specs.Two.{two_next}
 use Rattle.lines.proofs.Heads.{short_on, long-on}
-use Rattle.lines.proofs.line.Reading.with.Goals as goal
+use Rattle.lines.proofs.line.Reading.push.Goals as goal
 
 pub returns-then-self-lt-FULL : goal.returns-then-self-lt-FULL
 unfolding early_next

@@ -277,17 +277,17 @@ impl Answer {
             self.total,
             self.chosen,
         ];
-        output::put_line(out, &shown, b' ')
+        output::put_line_bytes(out, &shown, b' ')
     }
 
     // These, and as many entries as are counted: none where the listing isn't filled.
     fn put_listed(&self, out: &mut impl Write, listing: &Listing) -> io::Result<()> {
         self.put(out)?;
-        output::put_entries(
+        output::put_entries_bytes(
             out,
             listing,
             self.count,
-            output::Style {
+            output::ByteStyle {
                 begin: b"  ",
                 gap: b' ',
             },
@@ -425,7 +425,7 @@ impl Bench {
             return Ok(());
         }
         write!(out, "  ")?;
-        output::put_line(out, &report, b' ')
+        output::put_line_bytes(out, &report, b' ')
     }
 
     // Makes a call that lists nothing. The last listing stays.
@@ -438,7 +438,7 @@ impl Bench {
     fn put_search(&mut self, out: &mut impl Write, depth: u64, kept: u64) -> io::Result<()> {
         let answer = self.call_named(Call::Search(depth, kept));
         output::put_number(out, answer.number, b' ')?;
-        output::put_line(out, &answer.found, b' ')
+        output::put_line_bytes(out, &answer.found, b' ')
     }
 
     // A search that is carried on: its number, the count, whether it ended, the run's length and eight entry numbers.
@@ -447,7 +447,7 @@ impl Bench {
         for x in [answer.number, answer.count, answer.ended()] {
             output::put_number(out, x, b' ')?;
         }
-        output::put_line(out, &answer.found, b' ')
+        output::put_line_bytes(out, &answer.found, b' ')
     }
 
     // A run with the waiting draws and words so far: what it answers, and the events that it wrote. The last listing stays.
@@ -470,13 +470,13 @@ impl Bench {
         self.waiting.clear();
         self.words.clear();
         let shown = [number, steps, words, waiting, count, total];
-        output::put_line(out, &shown, b' ')?;
-        output::put_rows(
+        output::put_line_bytes(out, &shown, b' ')?;
+        output::put_rows_bytes(
             out,
             &events,
             Limits::EVENT,
             steps,
-            output::Style {
+            output::ByteStyle {
                 begin: b"  ",
                 gap: b' ',
             },
@@ -512,8 +512,8 @@ impl Bench {
             Line::Search(depth, kept) => self.put_search(out, depth, kept),
             Line::Begin(depth, kept) => self.call_named(Call::Begin(depth, kept)).put(out),
             Line::Carry(number) => self.put_carried(out, number),
-            Line::State => output::put_line(out, &self.machine.state, b' '),
-            Line::Clock => output::put_line(out, &self.machine.clock, b' '),
+            Line::State => output::put_line_bytes(out, &self.machine.state, b' '),
+            Line::Clock => output::put_line_bytes(out, &self.machine.clock, b' '),
             Line::Independent(i, j) => {
                 output::put_number(out, u64::from(judge(&self.listing, i, j)), b'\n')
             }

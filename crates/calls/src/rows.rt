@@ -83,7 +83,7 @@ fn put_firsts(out: &mut impl Write, outputs: &[u64], count: usize) -> io::Result
     for part in outputs.chunks_exact(Row::OUTPUT).take(count) {
         let shown = part.get(..Size::SHOWN).unwrap_or(part);
         write!(out, "  ")?;
-        output::put_line(out, shown, b' ')?;
+        output::put_line_bytes(out, shown, b' ')?;
     }
     Ok(())
 }
@@ -107,18 +107,18 @@ fn run_rows(out: &mut impl Write, rows: &[u64], machine: &mut Machine) -> io::Re
         &mut answers,
     );
     writeln!(out, "{ran}")?;
-    output::put_rows(
+    output::put_rows_bytes(
         out,
         &answers,
         Row::ANSWER,
         count as u64,
-        output::Style {
+        output::ByteStyle {
             begin: b"",
             gap: b' ',
         },
     )?;
     put_firsts(out, &outputs, count)?;
-    output::put_line(out, &machine.clock, b' ')
+    output::put_line_bytes(out, &machine.clock, b' ')
 }
 
 // Runs the rows on a fresh engine, and the late one.

@@ -20,11 +20,11 @@ fn put_refused(out: &mut impl Write, answer: Answer) -> io::Result<()> {
 
 fn put_sheet(out: &mut impl Write, answer: Answer, listing: &[u64]) -> io::Result<()> {
     writeln!(out, "kind,place,branch,partner,pbranch,pair,weight")?;
-    output::put_entries(
+    output::put_entries_bytes(
         out,
         listing,
         answer.count,
-        output::Style {
+        output::ByteStyle {
             begin: b"",
             gap: b',',
         },

@@ -5,6 +5,7 @@ ghost use Rattle.std.specs.Prelude.{◌≡◌, ◌+◌, ◌<◌, ◌≤◌, max,
 ghost use Rattle.std.specs.Io.KnownBytes.{Appends};
 
 use itoa::Integer;
+use std::fmt::Display;
 use std::io;
 use std::io::Write;
 
@@ -70,8 +71,8 @@ fn after(left: usize, gap: u8) -> u8 {
     if left == 0 { b'\n' } else { gap }
 }
 
-// A line of numbers.
-pub fn put_line<W: Write, T: Integer>(out: &mut W, numbers: &[T], gap: u8) -> io::Result<()> {
+// A line of numbers, with a byte between them.
+pub fn put_line_bytes<W: Write, T: Integer>(out: &mut W, numbers: &[T], gap: u8) -> io::Result<()> {
     let mut left = numbers.len();
     for group in numbers.chunks(Group::SIZE) {
         left = left.saturating_sub(group.len());
@@ -80,29 +81,59 @@ pub fn put_line<W: Write, T: Integer>(out: &mut W, numbers: &[T], gap: u8) -> io
     Ok(())
 }
 
+// What stands after number i of a line of n: a gap, or the line's end.
+fn gap_after(i: usize, n: usize, gap: char) -> char
+    requires { i < n }
+{
+    if n - i == 1 { '\n' } else { gap }
+}
+
+// A line of numbers, or of whatever can be displayed, with any letter between them.
+pub fn put_line<W: Write, T: Display>(out: &mut W, numbers: &[T], gap: char) -> io::Result<()> {
+    for (i, x) in numbers.iter().enumerate() {
+        write!(out, "{x}{}", gap_after(i, numbers.len(), gap))?;
+    }
+    Ok(())
+}
+
 // How rows are written: what each line begins with, and what stands between its numbers.
 #[derive(Clone, Copy)]
-pub struct Style<'a> {
+pub struct ByteStyle<'a> {
     pub begin: &'a [u8],
     pub gap: u8,
 }
 
+// The same with a text and a letter.
+#[derive(Clone, Copy)]
+pub struct Style<'a> {
+    pub begin: &'a str,
+    pub gap: char,
+}
+
 // A row with all its numbers, on a line. The width is said for the contract: it keeps a short rest of the numbers from being a row.
-fn put_row<W: Write>(out: &mut W, row: &[u64], width: usize, style: Style) -> io::Result<()>
+fn put_row<W: Write>(out: &mut W, row: &[u64], width: usize, style: ByteStyle) -> io::Result<()>
     requires { length row.now ≡ max width 1 }
 {
     out.write_all(style.begin)?;
+    put_line_bytes(out, row, style.gap)
+}
+
+// The same with a text and a letter.
+fn put_text_row<W: Write>(out: &mut W, row: &[u64], width: usize, style: Style) -> io::Result<()>
+    requires { length row.now ≡ max width 1 }
+{
+    write!(out, "{}", style.begin)?;
     put_line(out, row, style.gap)
 }
 
 // The first rows of so many numbers each, at least one, as far as they are there, each on a line of its own. The width is a number and no const parameter: as_chunks
 // asks for one above 0, and this answers any, 0 as 1.
-pub fn put_rows<W: Write>(
+pub fn put_rows_bytes<W: Write>(
     out: &mut W,
     numbers: &[u64],
     width: usize,
     count: u64,
-    style: Style,
+    style: ByteStyle,
 ) -> io::Result<()> {
     for row in numbers.chunks_exact(width.max(1)).take(count as usize) {
         put_row(out, row, width, style)?;
@@ -110,7 +141,32 @@ pub fn put_rows<W: Write>(
     Ok(())
 }
 
+// The same with a text and a letter.
+pub fn put_rows<W: Write>(
+    out: &mut W,
+    numbers: &[u64],
+    width: usize,
+    count: u64,
+    style: Style,
+) -> io::Result<()> {
+    let rows = numbers.chunks_exact(width.max(1));
+    for row in rows.take(count as usize) {
+        put_text_row(out, row, width, style)?;
+    }
+    Ok(())
+}
+
 // The first entries of a listing.
+pub fn put_entries_bytes<W: Write>(
+    out: &mut W,
+    listing: &[u64],
+    count: u64,
+    style: ByteStyle,
+) -> io::Result<()> {
+    put_rows_bytes(out, listing, listing::Limits::ENTRY, count, style)
+}
+
+// The same with a text and a letter.
 pub fn put_entries<W: Write>(
     out: &mut W,
     listing: &[u64],
@@ -119,3 +175,6 @@ pub fn put_entries<W: Write>(
 ) -> io::Result<()> {
     put_rows(out, listing, listing::Limits::ENTRY, count, style)
 }
+
+#[cfg(test)]
+mod tests;
